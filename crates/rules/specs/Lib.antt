@@ -1,0 +1,10 @@
+-- Document 01 as definitions, section by section. Below and Bytes are what they are made of.
+pub mod Below
+pub mod Bytes
+pub mod Shape
+pub mod Spare
+pub mod Page
+pub mod WellFormed
+pub mod Content
+pub mod Steps
+pub mod Replies

@@ -1,0 +1,174 @@
+-- What the card replies: total functions of what a command is given. Assumes nothing.
+use mathlib.Core.Bool.{Bool, not, cond}
+use mathlib.Core.List.{List, [], _∷_, _++_}
+use Prim.Native.Nat.{ℕ, zero, suc, _+_, _*_}
+use lib.Dec.{ltb, eqb}
+use lib.ListN.{length, take}
+use Rattle.rules.specs.declared.shape.Shape.{Shape}
+use Rattle.rules.specs.declared.place.Place.{Place}
+use Rattle.rules.specs.declared.place.Place.the-variants.{At, Nowhere}
+use Rattle.rules.specs.declared.answer.Answer.{Answer}
+use Rattle.rules.specs.declared.answer.Answer.the-variants.{Done, Refused, Cut}
+use Rattle.rules.specs.Below.{allBelow, countBelow}
+use Rattle.rules.specs.Spare.{highestNumber}
+use Rattle.rules.specs.Shape.{shapeOf, withinLimits, blockOf, inRange, needed}
+use Rattle.rules.specs.Page.{Image, pageBytes}
+use Rattle.rules.specs.WellFormed.{Blocks, blocksOf, isGood, isObsolete, dataBlock, liveLog, wellFormed}
+use Rattle.rules.specs.Content.{holder, bytesAt}
+use Rattle.rules.specs.Steps.{Step, stepsDone, programs, erases, highest, formatList, powerUpList, writeCase, numbersNeeded, writeList}
+
+-- ---- the number, the programs and the erases of an answer
+
+abbrev pub number : Answer → ℕ
+number (Done p e) = 0
+number (Refused n) = n
+number (Cut p e) = 8
+
+abbrev pub programsOf : Answer → ℕ
+programsOf (Done p e) = p
+programsOf (Refused n) = 0
+programsOf (Cut p e) = p
+
+abbrev pub erasesOf : Answer → ℕ
+erasesOf (Done p e) = e
+erasesOf (Refused n) = 0
+erasesOf (Cut p e) = e
+
+-- ---- the refusals of each command, in the order of the table
+--
+-- The lowest number that applies is the answer; 0 stands for none of 1 to 7.
+
+unfoldable pub goodBlocks : Shape → Blocks → ℕ
+goodBlocks s c = countBelow (s .blocks) (λ j. isGood (c j .state))
+
+-- 1: shape or image length outside the limits
+abbrev pub outsideLimits : Shape → Image → Bool
+outsideLimits s im = not (withinLimits s (length (im .bytes)) (length (im .spare)))
+
+-- 4: fewer good blocks than L + K + 1
+abbrev pub tooFewGood : Shape → Blocks → Bool
+tooFewGood s c = ltb (goodBlocks s c) (needed s)
+
+-- 6: an obsolete block exists
+abbrev pub unrecovered : Shape → Blocks → Bool
+unrecovered s c = not (allBelow (s .blocks) (λ j. not (isObsolete s c j)))
+
+-- 7: highest number plus new numbers needed (0, 1 or 2) above 4,294,967,294
+abbrev pub outOfNumbers : Shape → Blocks → ℕ → Bool
+outOfNumbers s c l = ltb highestNumber (highest s c + numbersNeeded (writeCase s c l))
+
+unfoldable pub formatRefusal : Shape → Image → Blocks → ℕ
+formatRefusal s im c =
+    cond (outsideLimits s im) 1
+    (cond (tooFewGood s c) 4
+    0)
+
+-- size: the numbers in the table
+unfoldable pub powerUpRefusal : Shape → Image → Blocks → ℕ → ℕ
+powerUpRefusal s im c size =
+    cond (outsideLimits s im) 1
+    (cond (not (eqb size (2 * s .logical))) 2
+    (cond (tooFewGood s c) 4
+    (cond (not (wellFormed s c)) 5
+    0)))
+
+-- size: the bytes of the page buffer; a: the logical page
+unfoldable pub readRefusal : Shape → Image → Blocks → ℕ → ℕ → ℕ
+readRefusal s im c size a =
+    cond (outsideLimits s im) 1
+    (cond (not (eqb size 512)) 2
+    (cond (not (inRange s a)) 3
+    (cond (tooFewGood s c) 4
+    (cond (not (wellFormed s c)) 5
+    0))))
+
+unfoldable pub writeRefusal : Shape → Image → Blocks → ℕ → ℕ → ℕ
+writeRefusal s im c size a =
+    cond (outsideLimits s im) 1
+    (cond (not (eqb size 512)) 2
+    (cond (not (inRange s a)) 3
+    (cond (tooFewGood s c) 4
+    (cond (not (wellFormed s c)) 5
+    (cond (unrecovered s c) 6
+    (cond (outOfNumbers s c (blockOf s a)) 7
+    0))))))
+
+-- ---- the replies
+
+-- the shape of a card: P, L and K as given with the command, B by the image's length
+abbrev pub shapeFor : ℕ → ℕ → ℕ → Image → Shape
+shapeFor P L K im = shapeOf P L K (length (im .bytes))
+
+-- an answer, and the steps that were done
+pub record Reply : Type 0 where
+  pub answer : Answer
+  pub steps : List Step
+
+-- The steps done are the first cut of the list, or all if there are fewer; 8: cut number below the list's length.
+abbrev pub carriedOut : ℕ → List Step → Reply
+carriedOut cut ts =
+    let ts′ : List Step = take cut ts in
+    record { answer = cond (ltb cut (length ts)) (Cut (programs ts′) (erases ts′)) (Done (programs ts′) (erases ts′)); steps = ts′ }
+
+-- 1 to 7 change nothing and report zero counts.
+abbrev pub refusedBy : ℕ → Reply
+refusedBy n = record { answer = Refused n; steps = [] }
+
+-- by the refusal: 0 for none
+abbrev pub unless : {A : Type 0} → ℕ → A → A → A
+unless zero refused x = x
+unless (suc n) refused x = refused
+
+unfoldable pub formatReply : Shape → Image → ℕ → Reply
+formatReply s im cut =
+    let c : Blocks = blocksOf s im in
+    let n : ℕ = formatRefusal s im c in
+    unless n (refusedBy n) (carriedOut cut (formatList s c))
+
+unfoldable pub powerUpReply : Shape → Image → ℕ → ℕ → Reply
+powerUpReply s im size cut =
+    let c : Blocks = blocksOf s im in
+    let n : ℕ = powerUpRefusal s im c size in
+    unless n (refusedBy n) (carriedOut cut (powerUpList s c))
+
+unfoldable pub writeReply : Shape → Image → ℕ → List ℕ → ℕ → Reply
+writeReply s im a d cut =
+    let c : Blocks = blocksOf s im in
+    let n : ℕ = writeRefusal s im c (length d) a in
+    unless n (refusedBy n) (carriedOut cut (writeList s im c a d))
+
+unfoldable pub readReply : Shape → Image → ℕ → ℕ → Reply
+readReply s im size a =
+    let c : Blocks = blocksOf s im in
+    let n : ℕ = readRefusal s im c size a in
+    unless n (refusedBy n) (carriedOut 0 [])
+
+-- the image that a reply leaves
+abbrev pub imageLeft : Shape → Image → Reply → Image
+imageLeft s im r = stepsDone s (r .steps) im
+
+-- Power-up also fills a table of 2 x L numbers: for each logical block its data block, then its live log block, 65,535 for none.
+unfoldable pub tableOf : Shape → Blocks → ℕ → List ℕ
+tableOf s c zero = []
+tableOf s c (suc l) = tableOf s c l ++ (dataBlock s c l ∷ liveLog s c l ∷ [])
+
+-- the table left: filled where the answer is 0, else as it was
+unfoldable pub tableLeft : Shape → Image → List ℕ → ℕ → List ℕ
+tableLeft s im old cut = unless (number (powerUpReply s im (length old) cut .answer)) old (tableOf s (blocksOf s im) (s .logical))
+
+-- the page buffer that read leaves
+unfoldable pub pageLeft : Shape → Image → List ℕ → ℕ → List ℕ
+pageLeft s im old a =
+    let c : Blocks = blocksOf s im in
+    unless (readRefusal s im c (length old) a) old (bytesAt im (holder s im c a))
+
+-- Page lending lends back the page's own 512 bytes of the image; the part is empty when read would refuse (its buffer check aside) or when no
+-- flash page holds the content.
+unfoldable pub lentPage : Shape → Image → ℕ → Place
+lentPage s im a =
+    let c : Blocks = blocksOf s im in
+    unless (readRefusal s im c 512 a) Nowhere (holder s im c a)
+
+abbrev pub lentBytes : Image → Place → List ℕ
+lentBytes im (At p) = pageBytes im p
+lentBytes im Nowhere = []
