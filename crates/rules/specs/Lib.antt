@@ -8,3 +8,4 @@ pub mod WellFormed
 pub mod Content
 pub mod Steps
 pub mod Replies
+pub mod Facts

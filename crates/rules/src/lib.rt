@@ -5,3 +5,4 @@ pub mod block;
 pub mod page;
 pub mod place;
 pub mod shape;
+pub mod test;

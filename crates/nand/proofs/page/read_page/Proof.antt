@@ -1,0 +1,28 @@
+-- Assumes nothing.
+use mathlib.Core.Path.{sym, _∙_}
+use borrow.Author.Needs.{needs}
+use Rattle.laws.proofs.Tests.{true-is, false-is}
+use Rattle.laws.proofs.Pages.{pageOf-erased, pageOf-entry, pageOf-junk}
+use Rattle.nand.proofs.page.read_page.Statement.{statement}
+use Rattle.nand.proofs.page.read_page.Tie as tie
+
+returns : tie.Need-returns
+returns c =
+    let a = c .before .before .before .before .args in
+    sym (pageOf-erased (a .page .now) (a .marks .now) (true-is _ (sym (c .before .page-erased .ensures) ∙ c .if1 .taken)))
+
+returns-2 : tie.Need-returns-2
+returns-2 c =
+    let start = c .before .before .before .before .before .before .before .before .before in
+    let a = start .args in
+    cc (pageOf-entry (a .page .now) (a .marks .now) (false-is _ (sym (c .before .before .before .before .before .before .page-erased .ensures) ∙ c .before .before .before .before .before .if1 .left)) (true-is _ (sym (c .before .before .before .before .in-table .ensures) ∙ c .before .before .before .if2 .taken)))
+
+returns-3 : tie.Need-returns-3
+returns-3 c =
+    let a = c .before .before .before .before .before .before .args in
+    sym (pageOf-junk (a .page .now) (a .marks .now) (false-is _ (sym (c .before .before .before .page-erased .ensures) ∙ c .before .before .if1 .left)) (false-is _ (sym (c .before .in-table .ensures) ∙ c .if2 .left)))
+
+pub read-page-spec : {M : Type 1} → statement M
+read-page-spec =
+    tie.close
+    (tie.spec (λ c κs. search needs) returns (λ c κs. search needs) (λ c κs. search needs) (λ c. search needs) (λ c κs. search needs) returns-2 returns-3)

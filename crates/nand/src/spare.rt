@@ -1,0 +1,71 @@
+// The sixteen spare bytes of a page, by the spare table.
+ghost use mathlib.Core.Path.{_≡_};
+ghost use Prim.Native.Nat.{_<_};
+ghost use lib.ListN.{length};
+ghost use Rattle.rules.specs.Spare.{numberIn, addressIn, inTable, spareBytes};
+use super::bytes::all_255;
+use rules::test;
+
+fn wide32(x: u8) -> u32
+    ensures { λ r. ⌜ (r ≡ x) × (r < 256) ⌝ }
+{
+    x as u32
+}
+
+fn wide16(x: u8) -> u16
+    ensures { λ r. ⌜ (r ≡ x) × (r < 256) ⌝ }
+{
+    x as u16
+}
+
+pub fn number_in(t: &[u8]) -> u32
+    requires { ⌜ length (now t) ≡ 16 ⌝ }
+    ensures { λ r. ⌜ r ≡ numberIn (now (t .entry)) ⌝ }
+{
+    wide32(t[0]) + wide32(t[1]) * 256 + wide32(t[2]) * 65536 + wide32(t[3]) * 16777216
+}
+
+pub fn address_in(t: &[u8]) -> u16
+    requires { ⌜ length (now t) ≡ 16 ⌝ }
+    ensures { λ r. ⌜ r ≡ addressIn (now (t .entry)) ⌝ }
+{
+    wide16(t[6]) + wide16(t[7]) * 256
+}
+
+// Whether these are bytes of the table.
+pub fn in_table(t: &[u8]) -> bool
+    requires { ⌜ length (now t) ≡ 16 ⌝ }
+    ensures { λ r. ⌜ r ≡ inTable (now (t .entry)) ⌝ }
+{
+    let n = number_in(t);
+    let k = t[4];
+    let number = test::and(1 <= n, n <= 4294967294);
+    let kind = test::or(k == 240, k == 15);
+    let status = t[5] == 255;
+    let rest = all_255(&t[8..16]);
+    test::and(test::and(test::and(number, kind), status), rest)
+}
+
+// The bytes of a page with this number, kind and logical page.
+pub fn spare_bytes(number: u32, kind: u8, address: usize) -> [u8; 16]
+    ensures { λ r. ⌜ r ≡ spareBytes number kind address ⌝ }
+{
+    [
+        (number % 256) as u8,
+        (number / 256 % 256) as u8,
+        (number / 65536 % 256) as u8,
+        (number / 16777216 % 256) as u8,
+        kind,
+        255,
+        (address % 256) as u8,
+        (address / 256 % 256) as u8,
+        255,
+        255,
+        255,
+        255,
+        255,
+        255,
+        255,
+        255,
+    ]
+}
