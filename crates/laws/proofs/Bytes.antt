@@ -1,7 +1,6 @@
 -- Laws of lists of bytes: all 255, a part, a part replaced. Assumes nothing.
 use mathlib.Core.Path.{_≡_, refl, sym, ap, _∙_}
-use mathlib.Core.Bool.{Bool, true, false, _&&_}
-use mathlib.Core.Logic.{_⊎_, ⊎-elim}
+use mathlib.Core.Bool.{true, false, _&&_}
 use mathlib.Core.List.{List, [], _∷_, _++_}
 use mathlib.Mathlib.Data.Bool.Basic.{and-elim-left, and-elim-right}
 use Prim.Native.Nat.{ℕ, zero, suc, _+_, _-_, _≤_, _<_}
@@ -10,8 +9,9 @@ use native.Mathlib.Numerals.{add-one}
 use native.Mathlib.Omega.{arith}
 use borrow.Author.Tests.{eq-eqb, ne-eqb, eqb-true}
 use lib.Dec.{eqb}
-use lib.ListN.{length, getD, take, drop, replicate, drop-of-length-le, length-append, length-take, length-drop, length-replicate, take-append-drop, replicate-append-replicate}
-use lib.Seq.{drop-cons, drop-drop, getD-take, getD-drop, take-take, length-take-le, take-append-le, drop-append-le, take-at, drop-at}
+use lib.ListN.{length, take, drop, replicate, drop-of-length-le}
+use lib.ListN.{length-append, length-take, length-drop, length-replicate, take-append-drop, replicate-append-replicate}
+use lib.Seq.{drop-cons, drop-drop, getD-take, getD-drop, length-take-le, take-append-le, drop-append-le, take-at, drop-at}
 use Rattle.rules.specs.Bytes.{all255, byte, part, replaced}
 
 -- ---- all255

@@ -1,6 +1,21 @@
--- Laws of the definitions of crates/rules.
+-- Laws of the definitions of crates/rules: of tests, numbers and bytes; of pages; of records; of roles; of steps; of a merge.
 pub mod Tests
+pub mod Below
 pub mod Bytes
 pub mod Shape
 pub mod Spare
 pub mod Pages
+pub mod Roles
+pub mod Records
+pub mod Filled
+pub mod Blocks
+pub mod Change
+pub mod Content
+pub mod Along
+pub mod Steps
+pub mod Erasing
+pub mod Copy
+pub mod Merge
+pub mod Merged
+pub mod Completed
+pub mod Arrays

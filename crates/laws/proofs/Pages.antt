@@ -1,7 +1,6 @@
 -- Laws of pages: what a page says, and the pages after a step. Assumes nothing.
 use mathlib.Core.Path.{_≡_, refl, sym, ap, _∙_, subst}
 use mathlib.Core.Logic.{_≢_, _⊎_, inl, inr, ⊎-elim}
-use mathlib.Core.Bool.{Bool, true, false}
 use mathlib.Core.List.{List, [], _∷_, _++_}
 use Prim.Native.Nat.{ℕ, _+_, _*_, _/_, _≤_, _<_}
 use native.Mathlib.Nat.{add-mul, mul-le-mul-right}
@@ -12,18 +11,30 @@ use Rattle.rules.specs.declared.shape.Shape.{Shape}
 use Rattle.rules.specs.declared.page.Page.{Page}
 use Rattle.rules.specs.declared.page.Page.the-variants.{Erased, Entry, Junk}
 use Rattle.rules.specs.Bytes.{all255, part, replaced}
-use Rattle.rules.specs.Spare.{highestNumber, numberIn, kindIn, statusIn, addressIn, inTable, spareBytes}
+use Rattle.rules.specs.Spare.{highestNumber, numberIn, kindIn, addressIn, inTable, spareBytes}
 use Rattle.rules.specs.Shape.{pageNo}
-use Rattle.rules.specs.Page.{Image, pageBytes, pageSpare, erased, pageOf, pageAt, isErased, isEntry}
+use Rattle.rules.specs.Page.{Image, pageBytes, pageSpare, erased, pageOf, pageAt, isErased, isEntry, numberOf, kindOf, addressOf}
 use Rattle.rules.specs.Steps.{Step, program, erase, stepDone, stepsDone}
 use Rattle.rules.specs.Facts.{Fits, Left, imageOf}
 use Rattle.rules.proofs.Sizes.{block-within}
 use Rattle.laws.proofs.Tests.{tcase, true-is, false-is, and-l, and-i, cond-yes, cond-no, dec-lt}
-use Rattle.laws.proofs.Bytes.{all255-replicate, part-replicate, replaced-length, part-replaced-same, part-replaced-inside, part-replaced-before, part-replaced-after}
+use Rattle.laws.proofs.Bytes.{all255-replicate, part-replicate, replaced-length}
+use Rattle.laws.proofs.Bytes.{part-replaced-same, part-replaced-inside, part-replaced-before, part-replaced-after}
 use Rattle.laws.proofs.Shape.{pageNo-block, pageNo-away}
-use Rattle.laws.proofs.Spare.{Kind, InTable, inTable-facts, spareBytes-number, spareBytes-kind, spareBytes-address, spareBytes-inTable, spareBytes-not-255}
+use Rattle.laws.proofs.Spare.{Kind, InTable, inTable-facts}
+use Rattle.laws.proofs.Spare.{spareBytes-number, spareBytes-kind, spareBytes-address, spareBytes-inTable, spareBytes-not-255}
 
 -- ---- what a page says
+
+pub isErased-is : (q : Page) → T (isErased q) → q ≡ Erased
+isErased-is Erased t = refl
+isErased-is (Entry n k a) t = absurd t
+isErased-is Junk t = absurd t
+
+pub isEntry-is : (q : Page) → T (isEntry q) → q ≡ Entry (numberOf q) (kindOf q) (addressOf q)
+isEntry-is Erased t = absurd t
+isEntry-is (Entry n k a) t = refl
+isEntry-is Junk t = absurd t
 
 module _ (d t : List ℕ) where
   pub pageOf-erased : T (erased d t) → pageOf d t ≡ Erased
@@ -57,9 +68,13 @@ pageOf-spareBytes d n k a low high kind small =
 -- the spare bytes of an entry
 pub pageOf-isEntry : (d t : List ℕ) → T (isEntry (pageOf d t)) → InTable t × (pageOf d t ≡ Entry (numberIn t) (kindIn t) (addressIn t))
 pageOf-isEntry d t h =
-    ⊎-elim (λ e. absurd (subst (λ (g : Page). T (isEntry g)) (pageOf-erased d t e) h))
-    (λ e. ⊎-elim (λ f. (inTable-facts t f, pageOf-entry d t (T-not (erased d t) e) f))
-    (λ f. absurd (subst (λ (g : Page). T (isEntry g)) (pageOf-junk d t (T-not (erased d t) e) (T-not (inTable t) f)) h)) (tcase (inTable t))) (tcase (erased d t))
+    elim (tcase (erased d t)) [
+      | inl e ↦ absurd (subst (λ (g : Page). T (isEntry g)) (pageOf-erased d t e) h)
+      | inr e ↦ elim (tcase (inTable t)) [
+        | inl f ↦ (inTable-facts t f, pageOf-entry d t (T-not (erased d t) e) f)
+        | inr f ↦ absurd (subst (λ (g : Page). T (isEntry g)) (pageOf-junk d t (T-not (erased d t) e) (T-not (inTable t) f)) h)
+      ]
+    ]
 
 -- ---- pages of w bytes, end to end: those from page c on are replaced, m of them
 
@@ -100,6 +115,9 @@ SamePage im im′ p = PageIs im p (pageBytes im′ p) (pageSpare im′ p)
 pub pageAt-same : (im im′ : Image) (p : ℕ) → SamePage im im′ p → pageAt im p ≡ pageAt im′ p
 unfolding pageAt
 pageAt-same im im′ p h = pageAt-is h
+
+pub samePage-then : {im im′ : Image} {p : ℕ} {d t : List ℕ} → SamePage im im′ p → PageIs im′ p d t → PageIs im p d t
+samePage-then g h = record { bytes-are = g .bytes-are ∙ h .bytes-are; spare-are = g .spare-are ∙ h .spare-are }
 
 module _ (s : Shape) (im : Image) (w : Fits s im) where
   pub fits-page : (p : ℕ) → p < s .blocks * s .pages → (p * 512 + 512 ≤ length (im .bytes)) × (p * 16 + 16 ≤ length (im .spare))
@@ -212,6 +230,18 @@ pub steps-fit : (s : Shape) (im : Image) → Fits s im → (xs : List Step) → 
 unfolding stepsDone
 steps-fit s im w [] g = w
 steps-fit s im w (x ∷ xs) g = steps-fit s (stepDone s x im) (step-fits s im w x (g .0)) xs (g .1)
+
+-- no step is on block j
+abbrev pub Apart : Shape → ℕ → List Step → Type 0
+Apart s j [] = Unit {0}
+Apart s j (x ∷ xs) = (j ≢ stepBlock s x) × Apart s j xs
+
+pub steps-other : (s : Shape) (im : Image) → Fits s im → (xs : List Step) → StepsIn s xs → (j i : ℕ) → Apart s j xs → i < s .pages
+    → SamePage (stepsDone s xs im) im (pageNo s j i)
+unfolding stepsDone
+steps-other s im w [] g j i apart h = record { bytes-are = refl; spare-are = refl }
+steps-other s im w (x ∷ xs) g j i apart h =
+    samePage-then (steps-other s (stepDone s x im) (step-fits s im w x (g .0)) xs (g .1) j i (apart .1) h) (step-other s im w x (g .0) j i (apart .0) h)
 
 pub stepsDone-append : (s : Shape) (xs ys : List Step) (im : Image) → stepsDone s (xs ++ ys) im ≡ stepsDone s ys (stepsDone s xs im)
 unfolding stepsDone

@@ -4,13 +4,14 @@ use mathlib.Core.Bool.{Bool}
 use mathlib.Core.Logic.{_≢_, _⊎_, inl, inr, ⊎-elim}
 use mathlib.Core.List.{List, [], _∷_}
 use Prim.Native.Nat.{ℕ, _+_, _*_, _/_, _%_, _≤_, _<_}
-use native.Mathlib.Nat.{div-eq-of-lt, mod-eq-of-lt, mul-add-div-right, mul-add-mod-self-right, div-add-mod', div-lt-iff-lt-mul, mod-lt, add-zero}
+use native.Mathlib.Nat.{div-eq-of-lt, mod-eq-of-lt, mul-add-div-right, mul-add-mod-self-right, div-add-mod'}
+use native.Mathlib.Nat.{div-lt-iff-lt-mul, mod-lt, mul-le-mul-right, add-zero}
 use native.Mathlib.Omega.{arith}
 use lib.Dec.{T, leb, eqb, leb→le, le→leb, ltb→lt, lt→ltb, eqb→eq}
 use Rattle.rules.specs.declared.shape.Shape.{Shape}
 use Rattle.rules.specs.Shape.{withinLimits, pageNo, blockOf, offsetOf, logicalPage, inRange}
 use Rattle.rules.specs.Facts.{Limits, Within}
-use Rattle.rules.proofs.Sizes.{block-within, page-within}
+use Rattle.rules.proofs.Sizes.{pages-most, block-within, page-within}
 use Rattle.laws.proofs.Tests.{chain-each, each-chain, dec-lt, eq→eqb}
 
 -- ---- withinLimits
@@ -124,3 +125,8 @@ module _ (s : Shape) where
 
   pub block-inRange : Limits s → (a : ℕ) → blockOf s a < s .logical → T (inRange s a)
   block-inRange l a h = lt→ltb a (s .logical * s .pages) (div-lt-iff-lt-mul (positive l) .0 h)
+
+  -- the address of a logical page fits its two bytes
+  pub inRange-small : Limits s → s .logical ≤ s .blocks → (a : ℕ) → T (inRange s a) → a < 65536
+  inRange-small l few a t =
+      omega (arith, ltb→lt a (s .logical * s .pages) t, mul-le-mul-right (s .pages) few, pages-most (l .blocks-high) (l .pages-high))

@@ -1,6 +1,6 @@
 -- Laws of the spare table: what is written there is read back, and is in the table. Assumes nothing.
-use mathlib.Core.Path.{_≡_, refl, sym, subst}
-use mathlib.Core.Bool.{Bool, true, false, _||_, and-false}
+use mathlib.Core.Path.{_≡_, refl}
+use mathlib.Core.Bool.{Bool, false, _||_, and-false}
 use mathlib.Core.Logic.{_⊎_, inl, inr, ⊎-elim}
 use mathlib.Core.List.{List, [], _∷_}
 use Prim.Native.Nat.{ℕ, _/_, _%_, _≤_, _<_}
@@ -38,7 +38,8 @@ facts-inTable t f =
     let k : ℕ = kindIn t in
     let kind : T (isKind k) =
     ⊎-elim (λ e. or-l (eqb k logKind) (eqb k copyKind) (eq→eqb _ _ e)) (λ e. or-r (eqb k logKind) (eqb k copyKind) (eq→eqb _ _ e)) (f .kind) in
-    each-chain (leb 1 (numberIn t)) (tests t) (le→leb _ _ (f .number-low)) (le→leb _ _ (f .number-high), (kind, (eq→eqb _ _ (f .status), (f .rest, tt))))
+    each-chain (leb 1 (numberIn t)) (tests t) (le→leb _ _ (f .number-low))
+    (le→leb _ _ (f .number-high), (kind, (eq→eqb _ _ (f .status), (f .rest, tt))))
 
 pub inTable-facts : (t : List ℕ) → T (inTable t) → InTable t
 unfolding inTable tests isKind

@@ -4,6 +4,9 @@ ghost use Prim.Native.Nat.{_<_};
 ghost use lib.ListN.{length};
 ghost use Rattle.rules.specs.Spare.{numberIn, addressIn, inTable, spareBytes};
 use super::bytes::all_255;
+use rules::page::COPY;
+use rules::page::HIGHEST;
+use rules::page::LOG;
 use rules::test;
 
 fn wide32(x: u8) -> u32
@@ -39,8 +42,8 @@ pub fn in_table(t: &[u8]) -> bool
 {
     let n = number_in(t);
     let k = t[4];
-    let number = test::and(1 <= n, n <= 4294967294);
-    let kind = test::or(k == 240, k == 15);
+    let number = test::and(1 <= n, n <= HIGHEST);
+    let kind = test::or(k == LOG, k == COPY);
     let status = t[5] == 255;
     let rest = all_255(&t[8..16]);
     test::and(test::and(test::and(number, kind), status), rest)

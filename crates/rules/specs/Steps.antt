@@ -1,7 +1,7 @@
 -- Commands as lists of steps. The list is fixed by the image and the call. Assumes nothing.
 --
 -- im is the image, and c its records.
-use mathlib.Core.Bool.{Bool, _&&_, not, cond}
+use mathlib.Core.Bool.{_&&_, not, cond}
 use mathlib.Core.List.{List, [], _∷_, _++_, map}
 use Prim.Native.Nat.{ℕ, suc, _+_, _*_}
 use lib.Dec.{ltb}

@@ -7,3 +7,11 @@ pub enum Page {
     // neither
     Junk,
 }
+
+// The kinds of the spare table.
+pub const LOG: u8 = 240;
+
+pub const COPY: u8 = 15;
+
+// The highest sequence number.
+pub const HIGHEST: u32 = 4294967294;

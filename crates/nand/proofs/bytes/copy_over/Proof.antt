@@ -23,7 +23,9 @@ loop-again c =
     let i = at-loop .loop .i in (
       omega arith,
       simp length-set (at-loop .loop .inv .1),
-      rw add-one (take-suc-set to i (getD from i 0) (omega arith) ∙ ap (λ (l : List ℕ). l ++ (getD from i 0 ∷ [])) (at-loop .loop .inv .2) ∙ sym (take-suc from i 0 (omega arith))),
+      rw add-one
+          (take-suc-set to i (getD from i 0) (omega arith) ∙ ap (λ (l : List ℕ). l ++ (getD from i 0 ∷ [])) (at-loop .loop .inv .2)
+          ∙ sym (take-suc from i 0 (omega arith))),
     )
 
 returns : tie.Need-returns Inv-loop μ-loop

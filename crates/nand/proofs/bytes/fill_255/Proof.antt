@@ -23,7 +23,8 @@ loop-again c =
     let more : take (suc i) (set s i 255) ≡ take i s ++ (255 ∷ []) = take-suc-set s i 255 (omega arith) in (
       omega arith,
       simp length-set (at-loop .loop .inv .1),
-      ap (λ (k : ℕ). take k (set s i 255)) (add-one i) ∙ more ∙ ap (λ (l : List ℕ). l ++ (255 ∷ [])) (at-loop .loop .inv .2) ∙ replicate-append-replicate i 1 255,
+      ap (λ (k : ℕ). take k (set s i 255)) (add-one i) ∙ more ∙ ap (λ (l : List ℕ). l ++ (255 ∷ [])) (at-loop .loop .inv .2)
+          ∙ replicate-append-replicate i 1 255,
     )
 
 returns : tie.Need-returns Inv-loop μ-loop

@@ -11,13 +11,15 @@ use Rattle.nand.proofs.page.page_erased.Tie as tie
 returns : tie.Need-returns
 unfolding erased
 returns c =
-    let e : all255 (c .before .before .before .before .args .marks .now) ≡ false = sym (c .before .all-255 .ensures) ∙ not-true _ (c .if1 .taken) in
+    let marks = c .before .before .before .before .args .marks .now in
+    let e : all255 marks ≡ false = sym (c .before .all-255 .ensures) ∙ not-true _ (c .if1 .taken) in
     simp e
 
 returns-2 : tie.Need-returns-2
 unfolding erased
 returns-2 c =
-    let e : all255 (c .before .before .before .before .before .args .marks .now) ≡ true = sym (c .before .before .all-255 .ensures) ∙ not-false _ (c .before .if1 .left) in
+    let marks = c .before .before .before .before .before .args .marks .now in
+    let e : all255 marks ≡ true = sym (c .before .before .all-255 .ensures) ∙ not-false _ (c .before .if1 .left) in
     simp e (c .all-2552 .ensures)
 
 pub page-erased-spec : {M : Type 1} → statement M

@@ -13,16 +13,23 @@ returns c =
 
 returns-2 : tie.Need-returns-2
 returns-2 c =
-    let start = c .before .before .before .before .before .before .before .before .before in
-    let a = start .args in
-    cc (pageOf-entry (a .page .now) (a .marks .now) (false-is _ (sym (c .before .before .before .before .before .before .page-erased .ensures) ∙ c .before .before .before .before .before .if1 .left)) (true-is _ (sym (c .before .before .before .before .in-table .ensures) ∙ c .before .before .before .if2 .taken)))
+    let table = c .before .before .before in
+    let programmed = table .before .before in
+    let a = programmed .before .before .before .before .args in
+    cc
+    (pageOf-entry (a .page .now) (a .marks .now) (false-is _ (sym (programmed .before .page-erased .ensures) ∙ programmed .if1 .left))
+    (true-is _ (sym (table .before .in-table .ensures) ∙ table .if2 .taken)))
 
 returns-3 : tie.Need-returns-3
 returns-3 c =
-    let a = c .before .before .before .before .before .before .args in
-    sym (pageOf-junk (a .page .now) (a .marks .now) (false-is _ (sym (c .before .before .before .page-erased .ensures) ∙ c .before .before .if1 .left)) (false-is _ (sym (c .before .in-table .ensures) ∙ c .if2 .left)))
+    let programmed = c .before .before in
+    let a = programmed .before .before .before .before .args in
+    sym
+    (pageOf-junk (a .page .now) (a .marks .now) (false-is _ (sym (programmed .before .page-erased .ensures) ∙ programmed .if1 .left))
+    (false-is _ (sym (c .before .in-table .ensures) ∙ c .if2 .left)))
 
 pub read-page-spec : {M : Type 1} → statement M
 read-page-spec =
     tie.close
-    (tie.spec (λ c κs. search needs) returns (λ c κs. search needs) (λ c κs. search needs) (λ c. search needs) (λ c κs. search needs) returns-2 returns-3)
+    (tie.spec (λ c κs. search needs) returns (λ c κs. search needs) (λ c κs. search needs) (λ c. search needs) (λ c κs. search needs)
+    returns-2 returns-3)

@@ -12,9 +12,11 @@ returns c =
     let first = c .before .before .before .before .before .before .before .before in
     let second = c .before .before in
     let a = first .before .before .before .before .before .before .args in
+    let at = first .before .before .page-bytes in
+    let from = second .before .before .before .page-spare in
     record {
-      bytes-are = replaced-lent (a .bytes .now) (a .page .now) _ (a .p * 512) _ 512 (first .before .before .page-bytes .ensures) (first .copy-over .ensures);
-      spare-are = replaced-lent (a .spare .now) (a .marks .now) _ (a .p * 16) _ 16 (second .before .before .before .page-spare .ensures) (second .copy-over2 .ensures);
+      bytes-are = replaced-lent (a .bytes .now) (a .page .now) _ (a .p * 512) _ 512 (at .ensures) (first .copy-over .ensures);
+      spare-are = replaced-lent (a .spare .now) (a .marks .now) _ (a .p * 16) _ 16 (from .ensures) (second .copy-over2 .ensures);
     }
 
 pub program-page-spec : {M : Type 1} → statement M

@@ -1,0 +1,11 @@
+pub mod Refusing
+pub mod Running
+pub mod Reading
+pub mod Sweeping
+pub mod Shaped
+pub mod Planning
+pub mod Carrying
+pub mod Choosing
+pub mod Copying
+pub mod Unique
+pub mod Useless

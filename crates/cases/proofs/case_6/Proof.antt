@@ -1,0 +1,17 @@
+-- `cases::case_6` is safe and ends. Assumes nothing.
+use Prim.Native.Nat.{_-_, _≤_}
+use native.Mathlib.Omega.{arith}
+use borrow.Author.Needs.{needs}
+use Rattle.cases.proofs.case_6.Statement.{statement}
+use Rattle.cases.proofs.case_6.Tie as tie
+
+abbrev Inv-loop : tie.InvT-loop
+Inv-loop bytes spare cut₀ cut = cut ≤ 8
+
+abbrev μ-loop : tie.MeasureT-loop
+μ-loop bytes spare cut₀ cut = 8 - cut
+
+pub case-6-spec : {M : Type 1} → statement M
+case-6-spec =
+    tie.close
+    (tie.spec Inv-loop μ-loop (λ c. omega arith) (λ c κs. search needs) (λ c. omega arith) (λ c. omega arith) (λ c. omega arith) (λ c. search needs))

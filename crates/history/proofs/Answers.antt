@@ -1,0 +1,190 @@
+-- What the replies say: the refusals as facts, and the number and the erases of an answer. Assumes nothing.
+use mathlib.Core.Path.{_≡_, refl, ap}
+use mathlib.Core.Logic.{_⊎_, inl, inr}
+use mathlib.Core.Bool.{Bool, true, false, not, cond}
+use mathlib.Core.List.{List}
+use Prim.Native.Nat.{ℕ, suc, _+_, _*_, _≤_, _<_}
+use native.Mathlib.Omega.{arith}
+use lib.ListN.{length, take}
+use lib.Dec.{T, ltb, eqb, eqb→eq, T-not, not-T, lt→ltb, nltb→le}
+use Rattle.rules.specs.declared.shape.Shape.{Shape}
+use Rattle.rules.specs.declared.answer.Answer.the-variants.{Done, Cut}
+use Rattle.rules.specs.Spare.{highestNumber}
+use Rattle.rules.specs.Shape.{needed, blockOf, inRange, withinLimits}
+use Rattle.rules.specs.Page.{Image}
+use Rattle.rules.specs.WellFormed.{Blocks, blocksOf, wellFormed}
+use Rattle.rules.specs.Steps.{Step, programs, erases, highest, writeCase, numbersNeeded}
+use Rattle.rules.specs.Replies.{number, erasesOf, goodBlocks, outsideLimits, tooFewGood, unrecovered, outOfNumbers, powerUpRefusal, readRefusal, writeRefusal, carriedOut}
+use Rattle.laws.proofs.Tests.{cond-yes, cond-no, dec-lt, nlt→ltb}
+use Rattle.laws.proofs.Shape.{withinLimits-within, within-withinLimits}
+use Rattle.laws.proofs.Roles.{wellFormed-e, wellFormed-i, recovered-e, recovered-i, Recovered}
+use Rattle.laws.proofs.Records.{blocksOf-records}
+use Rattle.history.specs.Demands.{RecoveredCard}
+use Rattle.laws.proofs.Erasing.{Sound}
+
+-- ---- refusals as facts
+
+-- the first refusal of a chain does not apply, and none after it
+pub chain-zero : (b : Bool) (n r : ℕ) → cond b (suc n) r ≡ 0 → (T b → ⊥) × (r ≡ 0)
+chain-zero true n r e = absurd (omega arith)
+chain-zero false n r e = ((λ t. t), e)
+
+pub passes : (b : Bool) → (T (not b) → ⊥) → T b
+passes true f = tt
+passes false f = absurd (f tt)
+
+module _ (s : Shape) (im : Image) where
+  abbrev c : Blocks
+  c = blocksOf s im
+
+  pub sound-of : (T (outsideLimits s im) → ⊥) → (T (tooFewGood s c) → ⊥) → T (wellFormed s c) → Sound s im
+  sound-of f g t =
+      let w = withinLimits-within s (length (im .bytes)) (length (im .spare)) (passes (withinLimits s (length (im .bytes)) (length (im .spare))) f) in
+      record {
+        fits = w;
+        wf = wellFormed-e s c (blocksOf-records s im (omega (arith, w .limits .pages-low)) (w .limits .blocks-high)) t;
+        enough = nltb→le (goodBlocks s c) (needed s) (not-T (tooFewGood s c) g);
+      }
+
+  module _ (w : Sound s im) where
+    pub sound-1 : T (outsideLimits s im) → ⊥
+    sound-1 t =
+        T-not (withinLimits s (length (im .bytes)) (length (im .spare))) t (within-withinLimits s (length (im .bytes)) (length (im .spare)) (w .fits))
+
+    pub sound-4 : T (tooFewGood s c) → ⊥
+    sound-4 = nlt→ltb (goodBlocks s c) (needed s) (w .enough)
+
+    pub sound-5 : T (wellFormed s c)
+    sound-5 = wellFormed-i s c (w .wf .records) (w .wf)
+
+    not-5 : T (not (wellFormed s c)) → ⊥
+    not-5 t = T-not (wellFormed s c) t sound-5
+
+  pub card-of : Sound s im → Recovered s c → RecoveredCard s im
+  card-of w rec = record { not1 = sound-1 w; not4 = sound-4 w; not5 = sound-5 w; not6 = recovered-i s c rec }
+
+  pub of-card : RecoveredCard s im → Sound s im × Recovered s c
+  of-card r = let w = sound-of (r .not1) (r .not4) (r .not5) in (w, recovered-e s c (w .wf .records) (r .not6))
+
+-- ---- what no refusal says
+
+pub record WriteTaken (s : Shape) (im : Image) (size a : ℕ) : Type 0 where
+  pub sound : Sound s im
+  pub long : size ≡ 512
+  pub inside : T (inRange s a)
+  pub clean : Recovered s (blocksOf s im)
+  pub fit : highest s (blocksOf s im) + numbersNeeded (writeCase s (blocksOf s im) (blockOf s a)) ≤ highestNumber
+
+pub write-taken : (s : Shape) (im : Image) (size a : ℕ) → writeRefusal s im (blocksOf s im) size a ≡ 0 → WriteTaken s im size a
+unfolding writeRefusal
+write-taken s im size a e =
+    let r₁ = chain-zero (outsideLimits s im) 0 _ e in
+    let r₂ = chain-zero (not (eqb size 512)) 1 _ (r₁ .1) in
+    let r₃ = chain-zero (not (inRange s a)) 2 _ (r₂ .1) in
+    let r₄ = chain-zero (tooFewGood s c′) 3 _ (r₃ .1) in
+    let r₅ = chain-zero (not (wellFormed s c′)) 4 _ (r₄ .1) in
+    let r₆ = chain-zero (unrecovered s c′) 5 _ (r₅ .1) in
+    let r₇ = chain-zero (outOfNumbers s c′ (blockOf s a)) 6 0 (r₆ .1) in
+    let w = sound-of s im (r₁ .0) (r₄ .0) (passes (wellFormed s c′) (r₅ .0)) in
+    record {
+      sound = w;
+      long = eqb→eq size 512 (passes (eqb size 512) (r₂ .0));
+      inside = passes (inRange s a) (r₃ .0);
+      clean = recovered-e s c′ (w .wf .records) (r₆ .0);
+      fit = nltb→le highestNumber (highest s c′ + numbersNeeded (writeCase s c′ (blockOf s a))) (not-T (outOfNumbers s c′ (blockOf s a)) (r₇ .0));
+    }
+  where
+    c′ : Blocks
+    c′ = blocksOf s im
+
+pub record ReadTaken (s : Shape) (im : Image) (size a : ℕ) : Type 0 where
+  pub sound : Sound s im
+  pub long : size ≡ 512
+  pub inside : T (inRange s a)
+
+pub read-taken : (s : Shape) (im : Image) (size a : ℕ) → readRefusal s im (blocksOf s im) size a ≡ 0 → ReadTaken s im size a
+unfolding readRefusal
+read-taken s im size a e =
+    let r₁ = chain-zero (outsideLimits s im) 0 _ e in
+    let r₂ = chain-zero (not (eqb size 512)) 1 _ (r₁ .1) in
+    let r₃ = chain-zero (not (inRange s a)) 2 _ (r₂ .1) in
+    let r₄ = chain-zero (tooFewGood s (blocksOf s im)) 3 _ (r₃ .1) in
+    let r₅ = chain-zero (not (wellFormed s (blocksOf s im))) 4 0 (r₄ .1) in
+    record {
+      sound = sound-of s im (r₁ .0) (r₄ .0) (passes (wellFormed s (blocksOf s im)) (r₅ .0));
+      long = eqb→eq size 512 (passes (eqb size 512) (r₂ .0));
+      inside = passes (inRange s a) (r₃ .0);
+    }
+
+pub powerUp-taken : (s : Shape) (im : Image) (size : ℕ) → powerUpRefusal s im (blocksOf s im) size ≡ 0 → Sound s im
+unfolding powerUpRefusal
+powerUp-taken s im size e =
+    let r₁ = chain-zero (outsideLimits s im) 0 _ e in
+    let r₂ = chain-zero (not (eqb size (2 * s .logical))) 1 _ (r₁ .1) in
+    let r₃ = chain-zero (tooFewGood s (blocksOf s im)) 3 _ (r₂ .1) in
+    let r₄ = chain-zero (not (wellFormed s (blocksOf s im))) 4 0 (r₃ .1) in
+    sound-of s im (r₁ .0) (r₃ .0) (passes (wellFormed s (blocksOf s im)) (r₄ .0))
+
+-- ---- refusals on a sound image: none of 1, 4 and 5 applies
+
+-- what holds of the first refusal, if it applies, and of the others holds of the chain
+chain : (Q : ℕ → Type 0) (b : Bool) (n r : ℕ) → (T b → Q n) → Q r → Q (cond b n r)
+chain Q true n r f q = f tt
+chain Q false n r f q = q
+
+module _ (s : Shape) (im : Image) (w : Sound s im) (Q : ℕ → Type 0) where
+  abbrev k : Blocks
+  k = blocksOf s im
+
+  pub powerUp-refusal : (size : ℕ) → (T (not (eqb size (2 * s .logical))) → Q 2) → Q 0 → Q (powerUpRefusal s im (blocksOf s im) size)
+  unfolding powerUpRefusal
+  powerUp-refusal size q2 q0 =
+      chain Q (outsideLimits s im) 1 _ (λ t. absurd (sound-1 s im w t))
+      (chain Q (not (eqb size (2 * s .logical))) 2 _ q2
+      (chain Q (tooFewGood s k) 4 _ (λ t. absurd (sound-4 s im w t))
+      (chain Q (not (wellFormed s k)) 5 0 (λ t. absurd (not-5 s im w t)) q0)))
+
+  pub read-refusal : (size a : ℕ) → (T (not (eqb size 512)) → Q 2) → (T (not (inRange s a)) → Q 3) → Q 0
+      → Q (readRefusal s im (blocksOf s im) size a)
+  unfolding readRefusal
+  read-refusal size a q2 q3 q0 =
+      chain Q (outsideLimits s im) 1 _ (λ t. absurd (sound-1 s im w t))
+      (chain Q (not (eqb size 512)) 2 _ q2
+      (chain Q (not (inRange s a)) 3 _ q3
+      (chain Q (tooFewGood s k) 4 _ (λ t. absurd (sound-4 s im w t))
+      (chain Q (not (wellFormed s k)) 5 0 (λ t. absurd (not-5 s im w t)) q0))))
+
+  pub write-refusal : (size a : ℕ) → (T (not (eqb size 512)) → Q 2) → (T (not (inRange s a)) → Q 3) → (T (unrecovered s (blocksOf s im)) → Q 6)
+      → (T (outOfNumbers s (blocksOf s im) (blockOf s a)) → Q 7)
+      → Q 0
+      → Q (writeRefusal s im (blocksOf s im) size a)
+  unfolding writeRefusal
+  write-refusal size a q2 q3 q6 q7 q0 =
+      chain Q (outsideLimits s im) 1 _ (λ t. absurd (sound-1 s im w t))
+      (chain Q (not (eqb size 512)) 2 _ q2
+      (chain Q (not (inRange s a)) 3 _ q3
+      (chain Q (tooFewGood s k) 4 _ (λ t. absurd (sound-4 s im w t))
+      (chain Q (not (wellFormed s k)) 5 _ (λ t. absurd (not-5 s im w t))
+      (chain Q (unrecovered s k) 6 _ q6
+      (chain Q (outOfNumbers s k (blockOf s a)) 7 0 q7 q0))))))
+
+-- ---- replies
+
+module _ (cut : ℕ) (ts : List Step) where
+  -- 8 where the list is cut, else 0
+  pub done-number : ((number (carriedOut cut ts .answer) ≡ 0) × (length ts ≤ cut)) ⊎ ((number (carriedOut cut ts .answer) ≡ 8) × (cut < length ts))
+  done-number =
+      elim (dec-lt cut (length ts)) [
+        | inl h ↦ inr (ap number (cond-yes (ltb cut (length ts)) _ _ (lt→ltb cut (length ts) h)), h)
+        | inr h ↦ inl (ap number (cond-no (ltb cut (length ts)) _ _ (nlt→ltb cut (length ts) h)), h)
+      ]
+
+  pub done-erases : erasesOf (carriedOut cut ts .answer) ≡ erases (take cut ts)
+  done-erases = go (ltb cut (length ts))
+    where
+      p : ℕ
+      p = programs (take cut ts)
+
+      go : (b : Bool) → erasesOf (cond b (Cut p (erases (take cut ts))) (Done p (erases (take cut ts)))) ≡ erases (take cut ts)
+      go true = refl
+      go false = refl

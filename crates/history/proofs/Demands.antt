@@ -1,0 +1,248 @@
+-- Demands 2 and 3, and that the card never gets stuck: the proofs of the statements in specs/Demands.antt. Assumes nothing.
+use mathlib.Core.Path.{_≡_, refl, sym, ap, _∙_, subst, subst₃}
+use mathlib.Core.Logic.{_≢_, _⊎_, inl, inr}
+use mathlib.Core.Bool.{not, _&&_}
+use mathlib.Core.List.{List, [], _∷_, _++_}
+use Prim.Native.Nat.{ℕ, zero, suc, _+_, _*_, _/_, _≤_}
+use native.Mathlib.Omega.{arith}
+use native.Mathlib.Nat.{le-div-iff-mul-le}
+use lib.ListN.{length, take}
+use lib.Seq.{take-all}
+use lib.Dec.{T, eqb, T-not}
+use Rattle.rules.specs.declared.shape.Shape.{Shape}
+use Rattle.rules.specs.Shape.{shapeOf, blockOf, inRange}
+use Rattle.rules.specs.Page.{Image}
+use Rattle.rules.specs.WellFormed.{blocksOf, wellFormed}
+use Rattle.rules.specs.Content.{content}
+use Rattle.rules.specs.Steps.{Step, erases, stepsDone, powerUpList, writeList}
+use Rattle.rules.specs.Replies.{number, shapeFor, imageLeft, carriedOut, refusedBy, unless, readRefusal, powerUpRefusal, writeRefusal, readReply, powerUpReply, writeReply, pageLeft}
+use Rattle.laws.proofs.Tests.{chain-each, eq→eqb}
+use Rattle.laws.proofs.Roles.{Recovered, taken-free}
+use Rattle.history.specs.History.{Command, read, write, powerUp, replyTo, Event, History, format, fresh, end, shape, events, pageAfter, lastFrom, lastWrite, counted, wasCut, howMany, erasesIn, FallIn, stepsIn, neverTwice, FindErased}
+use Rattle.history.specs.Demands.{ReadsTheLastWrite, OneMoreCommand, OnAnyImage, NeverProgrammedTwice, StaysWellFormed, AtMostTwiceTheWrites, FewLogicalBlocks, ShortLists, RecoveredCard, WriteIsTaken, PowerUpRecovers, WriteLeavesRecovered, ThereIsAFreeBlock}
+use Rattle.laws.proofs.Along.{AllAllowed, allowed-append}
+use Rattle.laws.proofs.Erasing.{Sound, contentOf}
+use Rattle.history.proofs.Cost.{logPages-none}
+use Rattle.history.proofs.Plan.{plan-end, plan-erases}
+use Rattle.history.proofs.Prepare.{none-in, write-cases, pre-goal}
+use Rattle.history.proofs.Write.{theCase, preImage, write-is, write-programs}
+use Rattle.history.proofs.Answers.{sound-5, card-of, of-card, WriteTaken, write-taken, read-taken, powerUp-taken, powerUp-refusal, read-refusal, write-refusal, done-number}
+use Rattle.history.proofs.Outcome.{powerUp-end, taken-plan, outcome}
+use Rattle.history.proofs.Format.{Formatted, format-done}
+use Rattle.history.proofs.Programs.{find-erased, never-twice}
+use Rattle.history.proofs.Histories.{after, eventsOf, one-shape, sound-after, holds-after, allowed-after, wear, wear-few}
+
+-- ---- a history, for the one shape that its commands find
+
+module _ (h : History) where
+  abbrev s : Shape
+  s = shapeFor (h .pages) (h .logical) (h .logs) (h .given)
+
+  start : Formatted s (h .given) (format h)
+  start = format-done s (h .given) (h .cut) (h .formatted)
+
+  shape-fresh : shapeFor (h .pages) (h .logical) (h .logs) (fresh h) ≡ s
+  shape-fresh = ap (shapeOf (h .pages) (h .logical) (h .logs)) (start .sound .fits .bytes-long ∙ sym (start .fits .bytes-long))
+
+  abbrev es : List Event
+  es = eventsOf s (fresh h) (h .commands)
+
+  abbrev im : Image
+  im = after s (fresh h) (h .commands)
+
+  known : (events h ≡ es) × (end h ≡ im) × (shapeFor (h .pages) (h .logical) (h .logs) im ≡ s)
+  known = one-shape (h .pages) (h .logical) (h .logs) s (fresh h) (h .commands) shape-fresh (start .sound)
+
+  -- what holds of that shape holds of the history
+  by-shape : (Q : Shape → Image → List Event → Type 0) → Q s im es → Q (shape h) (end h) (events h)
+  by-shape Q q =
+      subst₃ Q (sym (ap (shapeFor (h .pages) (h .logical) (h .logs)) (known .1) ∙ known .2)) (sym (known .1)) (sym (known .0)) q
+
+  sound : Sound s im
+  sound = sound-after s (fresh h) (h .commands) (start .sound)
+
+  holds : (a : ℕ) → contentOf s im a ≡ lastWrite es a
+  holds a = holds-after s (fresh h) (h .commands) (start .sound) a ∙ ap (lastFrom es a) (start .blank a)
+
+-- ---- demand 2
+
+module _ (s : Shape) (im : Image) (w : Sound s im) (buffer : List ℕ) (a : ℕ) (long : length buffer ≡ 512) (t : T (inRange s a)) where
+  taken-read : readRefusal s im (blocksOf s im) (length buffer) a ≡ 0
+  taken-read =
+      read-refusal s im w (λ n. n ≡ 0) (length buffer) a (λ u. absurd (T-not (eqb (length buffer) 512) u (eq→eqb (length buffer) 512 long)))
+      (λ u. absurd (T-not (inRange s a) u t)) refl
+
+  read-gives : pageLeft s im buffer a ≡ contentOf s im a
+  unfolding pageLeft content
+  read-gives = rw taken-read refl
+
+  read-zero : number (readReply s im (length buffer) a .answer) ≡ 0
+  unfolding readReply
+  read-zero = rw taken-read refl
+
+pub reads-the-last-write : ReadsTheLastWrite
+reads-the-last-write h a buffer =
+    by-shape h (λ z im es. T (inRange z a) → length buffer ≡ 512 → (number (readReply z im (length buffer) a .answer) ≡ 0)
+    × (pageLeft z im buffer a ≡ lastWrite es a))
+    (λ t long. (read-zero (s h) (im h) (sound h) buffer a long t, read-gives (s h) (im h) (sound h) buffer a long t ∙ holds h a))
+
+-- a read that is answered 0 is not refused
+not-refused : (s : Shape) (im : Image) (size a : ℕ) → number (readReply s im size a .answer) ≡ 0 → readRefusal s im (blocksOf s im) size a ≡ 0
+unfolding readReply
+not-refused s im size a = go (readRefusal s im (blocksOf s im) size a)
+  where
+    go : (n : ℕ) → number (unless n (refusedBy n) (carriedOut 0 []) .answer) ≡ 0 → n ≡ 0
+    go zero e = refl
+    go (suc n) e = e
+
+pub on-any-image : OnAnyImage
+on-any-image s im x a buffer e =
+    let t = read-taken s im (length buffer) a (not-refused s im (length buffer) a e) in
+    let o = outcome s im (t .sound) x in
+    let im′ : Image = imageLeft s im (replyTo s im x) in (
+      read-zero s im′ (o .sound) buffer a (t .long) (t .inside),
+      read-gives s im′ (o .sound) buffer a (t .long) (t .inside) ∙ o .holds a
+          ∙ ap (pageAfter x (replyTo s im x) a) (sym (read-gives s im (t .sound) buffer a (t .long) (t .inside))),
+    )
+
+pub one-more-command : OneMoreCommand
+one-more-command h x a buffer t long = on-any-image (shape h) (end h) x a buffer (reads-the-last-write h a buffer t long .0) .1
+
+pub never-programmed-twice : NeverProgrammedTwice
+never-programmed-twice h =
+    by-shape h (λ z im es. T (neverTwice z (format h .steps ++ stepsIn es)) × FindErased z (format h .steps ++ stepsIn es) (h .given)) (
+      never-twice (s h) (format h .steps ++ stepsIn (es h)) (h .given) (start h .fits) all,
+      find-erased (s h) (format h .steps ++ stepsIn (es h)) (h .given) all,
+    )
+  where
+    all : AllAllowed (s h) (format h .steps ++ stepsIn (es h)) (h .given)
+    all =
+        allowed-append (s h) (format h .steps) (stepsIn (es h)) (h .given) (start h .allowed)
+        (allowed-after (s h) (fresh h) (h .commands) (start h .sound))
+
+-- the number of an answer is that of the refusal, or 8
+number-cases : (n cut : ℕ) (ts : List Step)
+    → (number (unless n (refusedBy n) (carriedOut cut ts) .answer) ≡ n) ⊎ (number (unless n (refusedBy n) (carriedOut cut ts) .answer) ≡ 8)
+number-cases zero cut ts = elim (done-number cut ts) [ inl q ↦ inl (q .0) | inr q ↦ inr (q .0) ]
+number-cases (suc n) cut ts = inl refl
+
+-- none of 1, 4 and 5
+abbrev Fine : ℕ → Type 0
+Fine n = (n ≢ 1) × (n ≢ 4) × (n ≢ 5)
+
+fine : (n : ℕ) → T (not (eqb n 1) && not (eqb n 4) && not (eqb n 5)) → Fine n
+fine n t =
+    let q = chain-each (not (eqb n 1)) (not (eqb n 4) ∷ not (eqb n 5) ∷ []) t in (
+      (λ e. T-not (eqb n 1) (q .0) (eq→eqb n 1 e)),
+      (λ e. T-not (eqb n 4) (q .1 .0) (eq→eqb n 4 e)),
+      (λ e. T-not (eqb n 5) (q .1 .1 .0) (eq→eqb n 5 e)),
+    )
+
+fine-number : (n cut : ℕ) (ts : List Step) → Fine n → Fine (number (unless n (refusedBy n) (carriedOut cut ts) .answer))
+fine-number n cut ts f = elim (number-cases n cut ts) [ inl e ↦ subst Fine (sym e) f | inr e ↦ subst Fine (sym e) (fine 8 tt) ]
+
+never-1-4-5 : (s : Shape) (im : Image) → Sound s im → (x : Command) → Fine (number (replyTo s im x .answer))
+unfolding readReply writeReply powerUpReply
+never-1-4-5 s im w (read a buffer) =
+    fine-number (readRefusal s im (blocksOf s im) (length buffer) a) 0 []
+    (read-refusal s im w Fine (length buffer) a (λ t. fine 2 tt) (λ t. fine 3 tt) (fine 0 tt))
+never-1-4-5 s im w (write a d cut) =
+    fine-number (writeRefusal s im (blocksOf s im) (length d) a) cut (writeList s im (blocksOf s im) a d)
+    (write-refusal s im w Fine (length d) a (λ t. fine 2 tt) (λ t. fine 3 tt) (λ t. fine 6 tt) (λ t. fine 7 tt) (fine 0 tt))
+never-1-4-5 s im w (powerUp table cut) =
+    fine-number (powerUpRefusal s im (blocksOf s im) (length table)) cut (powerUpList s (blocksOf s im))
+    (powerUp-refusal s im w Fine (length table) (λ t. fine 2 tt) (fine 0 tt))
+
+pub stays-well-formed : StaysWellFormed
+stays-well-formed h =
+    by-shape h
+    (λ z im es. T (wellFormed z (blocksOf z im))
+    × ((x : Command) → (number (replyTo z im x .answer) ≢ 1) × (number (replyTo z im x .answer) ≢ 4) × (number (replyTo z im x .answer) ≢ 5)))
+    (sound-5 (s h) (im h) (sound h), never-1-4-5 (s h) (im h) (sound h))
+
+-- ---- demand 3
+
+pub at-most-twice-the-writes : AtMostTwiceTheWrites
+at-most-twice-the-writes h =
+    by-shape h (λ z im es. erasesIn es ≤ 2 * howMany counted es)
+    (omega (arith, wear (s h) (fresh h) (h .commands) (start h .sound), none-in (s h) (fresh h) (start h .clean)))
+
+pub few-logical-blocks : FewLogicalBlocks
+few-logical-blocks h S few =
+    by-shape h (λ z im es. FallIn z S es → erasesIn es ≤ 2 * (howMany counted es / h .pages) + howMany wasCut es)
+    (λ f.
+    let r = wear-few (s h) S few (fresh h) (h .commands) (start h .sound) (λ l n j t e. start h .noLive j t) f in
+    let q : r .0 ≤ howMany counted (es h) / h .pages =
+    le-div-iff-mul-le {k = h .pages} (omega (arith, start h .fits .limits .pages-low)) .1
+    (omega (arith, r .1, logPages-none (s h) (blocksOf (s h) (fresh h)) (start h .noLive))) in
+    omega (arith, r .2, none-in (s h) (fresh h) (start h .clean)))
+
+module _ (s : Shape) (im : Image) (a : ℕ) (d : List ℕ) (t : WriteTaken s im (length d) a) where
+  taken-erases : erases (writeList s im (blocksOf s im) a d) ≤ 2
+  taken-erases =
+      rw (write-is s im a d)
+      (plan-erases s im (taken-plan s im a d t))
+
+  taken-end : Sound s (stepsDone s (writeList s im (blocksOf s im) a d) im)
+      × Recovered s (blocksOf s (stepsDone s (writeList s im (blocksOf s im) a d) im))
+  taken-end =
+      rw (write-is s im a d)
+      (plan-end s im (taken-plan s im a d t))
+
+pub short-lists : ShortLists
+short-lists s im a d e = (write-programs s im a d, taken-erases s im a d (write-taken s im (length d) a e))
+
+-- ---- the card never gets stuck
+
+pub write-is-taken : WriteIsTaken
+unfolding writeReply
+write-is-taken s im r a d cut t long =
+    let w = of-card s im r in
+    let n : ℕ = writeRefusal s im (blocksOf s im) (length d) a in
+    let none-but-7 : (n ≡ 0) ⊎ (n ≡ 7) =
+    write-refusal s im (w .0) (λ m. (m ≡ 0) ⊎ (m ≡ 7)) (length d) a (λ u. absurd (T-not (eqb (length d) 512) u (eq→eqb (length d) 512 long)))
+    (λ u. absurd (T-not (inRange s a) u t)) (λ u. absurd (r .not6 u)) (λ u. inr refl) (inl refl) in
+    elim (number-cases n cut (writeList s im (blocksOf s im) a d)) [
+      | inl e ↦ elim none-but-7 [ inl z ↦ inl (e ∙ z) | inr z ↦ inr (inl (e ∙ z)) ]
+      | inr e ↦ inr (inr e)
+    ]
+
+pub power-up-recovers : PowerUpRecovers
+unfolding powerUpReply
+power-up-recovers s im size cut = go (powerUpRefusal s im (blocksOf s im) size) refl
+  where
+    ts : List Step
+    ts = powerUpList s (blocksOf s im)
+
+    go : (n : ℕ) → powerUpRefusal s im (blocksOf s im) size ≡ n → number (unless n (refusedBy n) (carriedOut cut ts) .answer) ≡ 0
+        → RecoveredCard s (imageLeft s im (unless n (refusedBy n) (carriedOut cut ts)))
+    go zero e z =
+        let w = powerUp-taken s im size e in
+        let all : take cut ts ≡ ts = elim (done-number cut ts) [ inl q ↦ take-all cut ts (q .1) | inr q ↦ absurd (omega (arith, q .0)) ] in
+        subst (λ (us : List Step). RecoveredCard s (stepsDone s us im)) (sym all)
+        (card-of s (stepsDone s ts im) (powerUp-end s im w .0) (powerUp-end s im w .1))
+    go (suc n) e z = absurd (omega arith)
+
+pub write-leaves-recovered : WriteLeavesRecovered
+unfolding writeReply
+write-leaves-recovered s im a d cut = go (writeRefusal s im (blocksOf s im) (length d) a) refl
+  where
+    ts : List Step
+    ts = writeList s im (blocksOf s im) a d
+
+    go : (n : ℕ) → writeRefusal s im (blocksOf s im) (length d) a ≡ n → number (unless n (refusedBy n) (carriedOut cut ts) .answer) ≡ 0
+        → RecoveredCard s (imageLeft s im (unless n (refusedBy n) (carriedOut cut ts)))
+    go zero e z =
+        let t = write-taken s im (length d) a e in
+        let all : take cut ts ≡ ts = elim (done-number cut ts) [ inl q ↦ take-all cut ts (q .1) | inr q ↦ absurd (omega (arith, q .0)) ] in
+        let r = taken-end s im a d t in
+        subst (λ (us : List Step). RecoveredCard s (stepsDone s us im)) (sym all) (card-of s (stepsDone s ts im) (r .0) (r .1))
+    go (suc n) e z = absurd (omega arith)
+
+pub there-is-a-free-block : ThereIsAFreeBlock
+there-is-a-free-block s im a d e =
+    let t = write-taken s im (length d) a e in
+    let r = pre-goal s im (t .sound) (blockOf s a) (t .clean) (theCase s im a d) (write-cases s im (t .sound) (blockOf s a)) (t .fit) .1 in (
+      taken-free s (blocksOf s im) (t .sound .wf) (t .clean) (t .sound .enough) .0,
+      taken-free s (blocksOf s (preImage s im a d)) (r .before .sound .wf) (r .clean) (r .before .sound .enough) .0,
+    )

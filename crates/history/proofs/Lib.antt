@@ -1,0 +1,12 @@
+pub mod Cost
+pub mod Plan
+pub mod Own
+pub mod Prepare
+pub mod Write
+pub mod Answers
+pub mod Happened
+pub mod Outcome
+pub mod Format
+pub mod Programs
+pub mod Histories
+pub mod Demands

@@ -1,0 +1,108 @@
+-- Demands 2 and 3 of the customer, of every history. Each is a statement; crates/history/proofs/Demands.antt proves it. Assumes nothing.
+use mathlib.Core.Path.{_≡_}
+use mathlib.Core.Logic.{_≢_, _⊎_}
+use mathlib.Core.Bool.{Bool}
+use mathlib.Core.List.{List}
+use Prim.Native.Nat.{ℕ, _+_, _*_, _/_, _≤_}
+use lib.Dec.{T}
+use lib.ListN.{length}
+use Rattle.rules.specs.declared.shape.Shape.{Shape}
+use Rattle.rules.specs.Below.{countBelow}
+use Rattle.rules.specs.Shape.{blockOf, inRange}
+use Rattle.rules.specs.Page.{Image}
+use Rattle.rules.specs.WellFormed.{blocksOf, isFree, wellFormed}
+use Rattle.rules.specs.Steps.{programs, erases, stepsDone, taken, writeCase, mergeFirst, writeList}
+use Rattle.rules.specs.Replies.{number, outsideLimits, tooFewGood, unrecovered, readReply, powerUpReply, writeReply, writeRefusal, imageLeft, pageLeft}
+use Rattle.history.specs.History.{Command, read, replyTo, History, end, shape, replyThen, answerThen, leftThen, events, pageAfter, lastWrite, counted, wasCut, howMany, erasesIn, FallIn, allSteps, neverTwice, FindErased}
+
+-- ---- demand 2
+
+-- After every history, a read of a page in range with a buffer of 512 bytes is answered 0, and gives the bytes of the last write of that page that
+-- happened, or 512 bytes of 255.
+abbrev pub ReadsTheLastWrite : Type 0
+ReadsTheLastWrite =
+    (h : History) (a : ℕ) (buffer : List ℕ) → T (inRange (shape h) a) → length buffer ≡ 512
+    → (answerThen h (read a buffer) ≡ 0) × (pageLeft (shape h) (end h) buffer a ≡ lastWrite (events h) a)
+
+-- One command more, cut anywhere: every page reads as before, but the written one as written if the write has happened.
+abbrev pub OneMoreCommand : Type 0
+OneMoreCommand =
+    (h : History) (x : Command) (a : ℕ) (buffer : List ℕ) → T (inRange (shape h) a) → length buffer ≡ 512
+    → pageLeft (shape h) (leftThen h x) buffer a ≡ pageAfter x (replyThen h x) a (pageLeft (shape h) (end h) buffer a)
+
+-- The same on any image that the read accepts, reachable or not: W1 to W7 alone carry it.
+abbrev pub OnAnyImage : Type 0
+OnAnyImage =
+    (s : Shape) (im : Image) (x : Command) (a : ℕ) (buffer : List ℕ) → number (readReply s im (length buffer) a .answer) ≡ 0
+    → let im′ : Image = imageLeft s im (replyTo s im x) in
+    (number (readReply s im′ (length buffer) a .answer) ≡ 0)
+    × (pageLeft s im′ buffer a ≡ pageAfter x (replyTo s im x) a (pageLeft s im buffer a))
+
+-- Of the whole list of steps done in a history: no page is programmed twice between erases, and each program finds its 528 bytes all 255.
+abbrev pub NeverProgrammedTwice : Type 0
+NeverProgrammedTwice = (h : History) → T (neverTwice (shape h) (allSteps h)) × FindErased (shape h) (allSteps h) (h .given)
+
+-- After every history the image is well-formed, and no command is answered 1, 4 or 5.
+abbrev pub StaysWellFormed : Type 0
+StaysWellFormed =
+    (h : History) → T (wellFormed (shape h) (blocksOf (shape h) (end h)))
+    × ((x : Command) → (answerThen h x ≢ 1) × (answerThen h x ≢ 4) × (answerThen h x ≢ 5))
+
+-- ---- demand 3
+
+-- n writes answered 0 or 8: at most 2n erases.
+abbrev pub AtMostTwiceTheWrites : Type 0
+AtMostTwiceTheWrites = (h : History) → erasesIn (events h) ≤ 2 * howMany counted (events h)
+
+-- If those writes, all n, fall in at most K logical blocks, which S marks, and c of them are answered 8: at most 2 x floor(n / P) + c.
+abbrev pub FewLogicalBlocks : Type 0
+FewLogicalBlocks =
+    (h : History) (S : ℕ → Bool) → countBelow (h .logical) S ≤ h .logs → FallIn (shape h) S (events h)
+    → erasesIn (events h) ≤ 2 * (howMany counted (events h) / h .pages) + howMany wasCut (events h)
+
+-- none of 1 to 7 refuses the write of page a with the bytes d
+abbrev pub NotRefused : Shape → Image → ℕ → List ℕ → Type 0
+NotRefused s im a d = writeRefusal s im (blocksOf s im) (length d) a ≡ 0
+
+-- On any image: no write that is not refused has more than P + 1 programs and 2 erases in its list.
+abbrev pub ShortLists : Type 0
+ShortLists =
+    (s : Shape) (im : Image) (a : ℕ) (d : List ℕ) → NotRefused s im a d
+    → (programs (writeList s im (blocksOf s im) a d) ≤ s .pages + 1) × (erases (writeList s im (blocksOf s im) a d) ≤ 2)
+
+-- ---- the card never gets stuck, on any image
+
+-- recovered: none of 1, 4, 5 and 6 applies
+pub record RecoveredCard (s : Shape) (im : Image) : Type 0 where
+  pub not1 : T (outsideLimits s im) → ⊥
+  pub not4 : T (tooFewGood s (blocksOf s im)) → ⊥
+  pub not5 : T (wellFormed s (blocksOf s im))
+  pub not6 : T (unrecovered s (blocksOf s im)) → ⊥
+
+-- A write in range with 512 bytes on a recovered card is answered 0, 7 or 8.
+abbrev pub WriteIsTaken : Type 0
+WriteIsTaken =
+    (s : Shape) (im : Image) → RecoveredCard s im → (a : ℕ) (d : List ℕ) (cut : ℕ) → T (inRange s a) → length d ≡ 512
+    → let n : ℕ = number (writeReply s im a d cut .answer) in (n ≡ 0) ⊎ ((n ≡ 7) ⊎ (n ≡ 8))
+
+-- A power-up that is answered 0 leaves a recovered card.
+abbrev pub PowerUpRecovers : Type 0
+PowerUpRecovers =
+    (s : Shape) (im : Image) (size cut : ℕ) → number (powerUpReply s im size cut .answer) ≡ 0
+    → RecoveredCard s (imageLeft s im (powerUpReply s im size cut))
+
+-- So does a write that is answered 0.
+abbrev pub WriteLeavesRecovered : Type 0
+WriteLeavesRecovered =
+    (s : Shape) (im : Image) (a : ℕ) (d : List ℕ) (cut : ℕ) → number (writeReply s im a d cut .answer) ≡ 0
+    → RecoveredCard s (imageLeft s im (writeReply s im a d cut))
+
+-- the block that would be taken is free
+abbrev pub FreeToTake : Shape → Image → Type 0
+FreeToTake s im = T (isFree (blocksOf s im (taken s (blocksOf s im)) .state))
+
+-- Where a write that is not refused takes a block, for its merge and after it, there is a free one.
+abbrev pub ThereIsAFreeBlock : Type 0
+ThereIsAFreeBlock =
+    (s : Shape) (im : Image) (a : ℕ) (d : List ℕ) → NotRefused s im a d
+    → FreeToTake s im × FreeToTake s (stepsDone s (mergeFirst s im (blocksOf s im) (writeCase s (blocksOf s im) (blockOf s a))) im)

@@ -1,0 +1,1 @@
+// Theorems over histories of commands: statements in specs/, proofs in proofs/. No code.

@@ -1,0 +1,159 @@
+-- The records of an image: what each has, whatever the bytes. Assumes nothing.
+use mathlib.Core.Path.{_≡_, refl, sym, subst}
+use mathlib.Core.Logic.{inl, inr}
+use mathlib.Core.Bool.{Bool, not, _&&_}
+use Prim.Native.Nat.{ℕ, _*_, _≤_, _<_}
+use native.Mathlib.Omega.{arith}
+use native.Mathlib.Nat.{div-lt-iff-lt-mul}
+use lib.ListN.{List·getD-eq-default}
+use lib.Dec.{T, eqb, ltb→lt, T-not}
+use Rattle.rules.specs.declared.shape.Shape.{Shape}
+use Rattle.rules.specs.declared.page.Page.the-variants.{Erased}
+use Rattle.rules.specs.declared.block.State.the-variants.{Bad, Free, Ill}
+use Rattle.rules.specs.declared.block.Block.{Block}
+use Rattle.rules.specs.Below.{allBelow, listBelow}
+use Rattle.rules.specs.Shape.{blockOf, inRange, pageNo}
+use Rattle.rules.specs.Page.{Image, pageAt, isErased, addressOf}
+use Rattle.rules.specs.WellFormed.{Pages, W1, W2, W3, W4, W1to4, notUsed, allErased, usedBlock, goodBlock, isBad, pagesOf, blockAt, blocksOf, isUsed, isFree}
+use Rattle.laws.proofs.Tests.{tcase, is-true, is-false, and-l, and-r, or-e, dec-lt}
+use Rattle.laws.proofs.Below.{allBelow-at, allBelow-all, countBelow-most, listBelow-length, listBelow-at}
+use Rattle.laws.proofs.Roles.{Records}
+
+-- ---- the records and the pages of an image, by number
+
+module _ (s : Shape) (im : Image) where
+  pub blocksOf-at : (j : ℕ) → j < s .blocks → blocksOf s im j ≡ blockAt s im j
+  unfolding blocksOf
+  blocksOf-at j h = listBelow-at (s .blocks) (blockAt s im) j (notUsed Bad) h
+
+  pub blocksOf-outside : (j : ℕ) → s .blocks ≤ j → blocksOf s im j ≡ notUsed Bad
+  unfolding blocksOf
+  blocksOf-outside j h =
+      List·getD-eq-default (listBelow (s .blocks) (blockAt s im)) (notUsed Bad) (omega (arith, listBelow-length (s .blocks) (blockAt s im)))
+
+  pub pagesOf-at : (b i : ℕ) → i < s .pages → pagesOf s im b i ≡ pageAt im (pageNo s b i)
+  unfolding pagesOf
+  pagesOf-at b i h = listBelow-at (s .pages) (λ k. pageAt im (pageNo s b k)) i Erased h
+
+-- ---- a used block
+
+module _ (s : Shape) (g : Pages) where
+  -- what block b with pages g is, by its record
+  pub data Seen : Block → Type 0 where
+    seen-free : T (allErased s g) → Seen (notUsed Free)
+    seen-ill : Seen (notUsed Ill)
+    seen-used : (T (allErased s g) → ⊥) → T (W1to4 s g) → Seen (usedBlock s g)
+
+  pub goodBlock-seen : Seen (goodBlock s g)
+  unfolding goodBlock
+  goodBlock-seen =
+      elim (tcase (allErased s g)) [
+        | inl t ↦ rw (is-true (allErased s g) t) (seen-free t)
+        | inr t ↦ rw (is-false (allErased s g) (T-not (allErased s g) t)) (elim (tcase (W1to4 s g)) [
+          | inl u ↦ rw (is-true (W1to4 s g) u) (seen-used (T-not (allErased s g) t) u)
+          | inr u ↦ rw (is-false (W1to4 s g) (T-not (W1to4 s g) u)) seen-ill
+        ])
+      ]
+
+  abbrev all : (Shape → Pages → ℕ → Bool) → Bool
+  all rule = allBelow (s .pages) (rule s g)
+
+  -- W1 to W4, rule by rule
+  pub rules-e : T (W1to4 s g) → T (allBelow (s .pages) (W1 s g)) × T (allBelow (s .pages) (W2 s g)) × T (allBelow (s .pages) (W3 s g))
+      × T (allBelow (s .pages) (W4 s g))
+  unfolding W1to4
+  rules-e t =
+      let t₃ : T (all W1 && all W2 && all W3) = and-l (all W1 && all W2 && all W3) (all W4) t in
+      let t₂ : T (all W1 && all W2) = and-l (all W1 && all W2) (all W3) t₃ in
+      (and-l (all W1) (all W2) t₂, and-r (all W1) (all W2) t₂, and-r (all W1 && all W2) (all W3) t₃, and-r (all W1 && all W2 && all W3) (all W4) t)
+
+  -- W1: before a page that is programmed there is no erased one
+  pub W1-before : T (W1to4 s g) → (i j : ℕ) → i < s .pages → j < i → (T (isErased (g i)) → ⊥) → T (isErased (g j)) → ⊥
+  unfolding W1
+  W1-before t i j h k f u =
+      elim (or-e (isErased (g i)) (allBelow i (λ j. not (isErased (g j)))) (allBelow-at (s .pages) (W1 s g) (rules-e t .0) i h)) [
+        | inl e ↦ f e
+        | inr a ↦ T-not (isErased (g j)) (allBelow-at i (λ j. not (isErased (g j))) a j k) u
+      ]
+
+  -- its first page is programmed
+  pub first-programmed : (T (allErased s g) → ⊥) → T (W1to4 s g) → T (isErased (g 0)) → ⊥
+  first-programmed f t e = f (allBelow-all (s .pages) (λ i. isErased (g i)) erased-at)
+    where
+      erased-at : (i : ℕ) → i < s .pages → T (isErased (g i))
+      erased-at i h =
+          elim (tcase (isErased (g i))) [
+            | inl u ↦ u
+            | inr u ↦ elim (dec-lt 0 i) [
+              | inl k ↦ absurd (W1-before t i 0 h k (T-not (isErased (g i)) u) e)
+              | inr k ↦ let z : i ≡ 0 = omega arith in subst (λ (j : ℕ). T (isErased (g j))) (sym z) e
+            ]
+          ]
+
+  pub logical-inRange : 0 < s .pages → (T (allErased s g) → ⊥) → T (W1to4 s g) → blockOf s (addressOf (g 0)) < s .logical
+  unfolding W3
+  logical-inRange p f t =
+      elim (or-e (isErased (g 0)) (inRange s (addressOf (g 0)) && eqb (blockOf s (addressOf (g 0))) (blockOf s (addressOf (g 0))))
+      (allBelow-at (s .pages) (W3 s g) (rules-e t .2) 0 p)) [
+        | inl e ↦ absurd (first-programmed f t e)
+        | inr a ↦
+            div-lt-iff-lt-mul p .1
+            (ltb→lt (addressOf (g 0)) (s .logical * s .pages)
+            (and-l (inRange s (addressOf (g 0))) (eqb (blockOf s (addressOf (g 0))) (blockOf s (addressOf (g 0)))) a))
+      ]
+
+  seen-free-is : {x : Block} → Seen x → T (isFree (x .state)) → x ≡ notUsed Free
+  seen-free-is (seen-free t) u = refl
+  seen-free-is seen-ill u = absurd u
+  seen-free-is (seen-used f t) u = absurd u
+
+  seen-inRange : 0 < s .pages → {x : Block} → Seen x → T (isUsed (x .state)) → x .logical < s .logical
+  seen-inRange p (seen-free t) u = absurd u
+  seen-inRange p seen-ill u = absurd u
+  seen-inRange p (seen-used f t) u = logical-inRange p f t
+
+  seen-fits : {x : Block} → Seen x → x .filled ≤ s .pages
+  seen-fits (seen-free t) = omega arith
+  seen-fits seen-ill = omega arith
+  seen-fits (seen-used f t) = countBelow-most (s .pages) (λ i. not (isErased (g i)))
+
+-- ---- the records of an image
+
+module _ (s : Shape) (im : Image) where
+  pub blockAt-bad : (b : ℕ) → T (isBad s im b) → blockAt s im b ≡ notUsed Bad
+  unfolding blockAt
+  blockAt-bad b t = rw (is-true (isBad s im b) t)
+
+  pub blockAt-good : (b : ℕ) → (T (isBad s im b) → ⊥) → blockAt s im b ≡ goodBlock s (pagesOf s im b)
+  unfolding blockAt
+  blockAt-good b f = rw (is-false (isBad s im b) f)
+
+  -- what holds of a bad block and of a good one
+  blockAt-cases : (Q : Block → Type 0) (b : ℕ) → Q (notUsed Bad) → Q (goodBlock s (pagesOf s im b)) → Q (blockAt s im b)
+  blockAt-cases Q b p q =
+      elim (tcase (isBad s im b)) [
+        | inl t ↦ rw (blockAt-bad b t) p
+        | inr t ↦ rw (blockAt-good b (T-not (isBad s im b) t)) q
+      ]
+
+  pub blocksOf-records : 0 < s .pages → s .blocks ≤ 64 → Records s (blocksOf s im)
+  blocksOf-records p few =
+      record { few = few; outside = blocksOf-outside s im; free = λ j. cases j .2; inRange = λ j. cases j .0; fits = λ j. cases j .1 }
+    where
+      Q : Block → Type 0
+      Q x = (T (isUsed (x .state)) → x .logical < s .logical) × (x .filled ≤ s .pages) × (T (isFree (x .state)) → x ≡ notUsed Free)
+
+      good : (b : ℕ) → Q (goodBlock s (pagesOf s im b))
+      good b =
+          let g : Pages = pagesOf s im b in
+          (seen-inRange s g p (goodBlock-seen s g), seen-fits s g (goodBlock-seen s g), seen-free-is s g (goodBlock-seen s g))
+
+      bad : Q (notUsed Bad)
+      bad = ((λ u. absurd u), omega arith, (λ u. absurd u))
+
+      cases : (j : ℕ) → Q (blocksOf s im j)
+      cases j =
+          elim (dec-lt j (s .blocks)) [
+            | inl h ↦ rw (blocksOf-at s im j h) (blockAt-cases Q j bad (good j))
+            | inr h ↦ rw (blocksOf-outside s im j h) bad
+          ]

@@ -1,0 +1,170 @@
+-- One step done to an image: the records and the pages that it leaves. Assumes nothing.
+use mathlib.Core.Path.{_≡_, sym, ap, _∙_, subst, fun-ext}
+use mathlib.Core.Logic.{_≢_, inl, inr}
+use mathlib.Core.List.{List}
+use Prim.Native.Nat.{ℕ, _≤_, _<_}
+use native.Mathlib.Omega.{arith}
+use native.Mathlib.Nat.{le-refl}
+use lib.ListN.{length}
+use lib.Dec.{T, T-not}
+use Rattle.rules.specs.declared.shape.Shape.{Shape}
+use Rattle.rules.specs.declared.page.Page.{Page}
+use Rattle.rules.specs.declared.page.Page.the-variants.{Erased}
+use Rattle.rules.specs.declared.block.State.the-variants.{Free}
+use Rattle.rules.specs.declared.block.Block.{Block}
+use Rattle.rules.specs.Bytes.{all255}
+use Rattle.rules.specs.Spare.{highestNumber, addressIn, spareBytes, inTable}
+use Rattle.rules.specs.Shape.{pageNo}
+use Rattle.rules.specs.Page.{Image, pageBytes, pageSpare, erased, pageOf, pageAt, isErased}
+use Rattle.rules.specs.WellFormed.{notUsed, isGood, isFree, isUsed, blockAt, blocksOf}
+use Rattle.rules.specs.Steps.{Step, program, erase, stepDone}
+use Rattle.rules.specs.Facts.{Fits}
+use Rattle.laws.proofs.Tests.{tcase, false-is, dec-eq}
+use Rattle.laws.proofs.Shape.{pageNo-below, pageNo-same-block, pageNo-same-place}
+use Rattle.laws.proofs.Spare.{spareBytes-length, spareBytes-address, spareBytes-not-255}
+use Rattle.laws.proofs.Pages.{pageOf-entry, pageOf-junk, Programs, program-fits, program-page, program-other, erase-fits, erase-other}
+use Rattle.laws.proofs.Roles.{good-below, used-good, free-good}
+use Rattle.laws.proofs.Records.{blocksOf-at, blockAt-bad, blocksOf-records}
+use Rattle.laws.proofs.Blocks.{oneMore, Writable, Joins, blockAt-same, blocksOf-same, step-blockAt, erase-blockAt, program-blockAt, free-page, used-blank, ordered-offset, used-number}
+use Rattle.laws.proofs.Change.{changed, changed-same, changed-other}
+use Rattle.laws.proofs.Content.{SamePages, offsetAt}
+use Rattle.laws.proofs.Along.{Allowed}
+
+-- ---- records, block by block
+
+-- the records of two images that differ at b
+pub blocks-changed : (s : Shape) (im im′ : Image) (b : ℕ) (x : Block) → b < s .blocks → blockAt s im′ b ≡ x
+    → ((j : ℕ) → j ≢ b → blockAt s im′ j ≡ blockAt s im j)
+    → blocksOf s im′ ≡ changed (blocksOf s im) b x
+blocks-changed s im im′ b x h here else =
+    fun-ext (λ j. elim (dec-eq j b) [
+      | inl e ↦
+          ap (blocksOf s im′) e ∙ blocksOf-at s im′ b h ∙ here ∙ sym (changed-same (blocksOf s im) b x) ∙ ap (changed (blocksOf s im) b x) (sym e)
+      | inr n ↦ blocksOf-same s im′ im j (else j n) ∙ sym (changed-other (blocksOf s im) b x j n)
+    ])
+
+module _ (s : Shape) (im : Image) (w : Fits s im) (b : ℕ) where
+  pub good-in : T (isGood (blocksOf s im b .state)) → b < s .blocks
+  good-in = good-below s (blocksOf s im) (blocksOf-records s im (omega (arith, w .limits .pages-low)) (w .limits .blocks-high)) b
+
+  -- what holds of the record of a good block holds of it as read from its pages
+  pub as-read : (Q : Block → Type 0) → b < s .blocks → Q (blocksOf s im b) → Q (blockAt s im b)
+  as-read Q h = subst Q (blocksOf-at s im b h)
+
+  pub used-numbers : T (isUsed (blocksOf s im b .state)) → (1 ≤ blocksOf s im b .number) × (blocksOf s im b .number ≤ highestNumber)
+  used-numbers t =
+      let h : b < s .blocks = good-in (used-good (blocksOf s im b .state) t) in
+      subst (λ (x : Block). (1 ≤ x .number) × (x .number ≤ highestNumber)) (sym (blocksOf-at s im b h))
+      (used-number s im (omega (arith, w .limits .pages-low)) b (as-read (λ x. T (isUsed (x .state))) h t))
+
+  -- page i of a used block that is in order has offset i
+  pub ordered-offsets : T (isUsed (blocksOf s im b .state)) → T (blocksOf s im b .ordered) → (i : ℕ) → i < blocksOf s im b .filled → i < s .pages
+      → offsetAt s im b i ≡ i
+  ordered-offsets t o i k h =
+      let hb : b < s .blocks = good-in (used-good (blocksOf s im b .state) t) in
+      ordered-offset s im b i h (as-read (λ x. T (isUsed (x .state))) hb t) (as-read (λ x. i < x .filled) hb k) (as-read (λ x. T (x .ordered)) hb o)
+
+-- a page that is read as erased has 528 bytes of 255
+pub pageAt-erased : (im : Image) (p : ℕ) → pageAt im p ≡ Erased → T (erased (pageBytes im p) (pageSpare im p))
+unfolding pageAt
+pageAt-erased im p e =
+    elim (tcase (erased d t)) [ inl u ↦ u | inr u ↦ absurd (subst (λ (q : Page). T (isErased q) → ⊥) e (not-erased (T-not (erased d t) u)) tt) ]
+  where
+    d : List ℕ
+    d = pageBytes im p
+
+    t : List ℕ
+    t = pageSpare im p
+
+    not-erased : (T (erased d t) → ⊥) → T (isErased (pageOf d t)) → ⊥
+    not-erased f u =
+        elim (tcase (inTable t)) [
+          | inl k ↦ subst (λ (q : Page). T (isErased q)) (pageOf-entry d t f k) u
+          | inr k ↦ subst (λ (q : Page). T (isErased q)) (pageOf-junk d t f (T-not (inTable t) k)) u
+        ]
+
+-- ---- an erase
+
+pub record Erases (s : Shape) (im : Image) (b : ℕ) : Type 0 where
+  pub fits : Fits s (stepDone s (erase b) im)
+  pub blocks : blocksOf s (stepDone s (erase b) im) ≡ changed (blocksOf s im) b (notUsed Free)
+  pub others : (j : ℕ) → j ≢ b → SamePages s im (stepDone s (erase b) im) j (s .pages)
+  pub allowed : Allowed s (erase b) im
+
+pub erase-done : (s : Shape) (im : Image) → Fits s im → (b : ℕ) → T (isGood (blocksOf s im b .state)) → Erases s im b
+erase-done s im w b g =
+    record {
+      fits = erase-fits s im w b h;
+      blocks = blocks-changed s im (stepDone s (erase b) im) b (notUsed Free) h (erase-blockAt s im w b h) (step-blockAt s im w (erase b) h);
+      others = λ j n i k. let q = erase-other s im w b h j i n k in (q .bytes-are, q .spare-are);
+      allowed = record { below = h; good = λ t. subst (λ (x : Block). T (isGood (x .state))) (blocksOf-at s im b h ∙ blockAt-bad s im b t) g };
+    }
+  where
+    h : b < s .blocks
+    h = good-in s im w b g
+
+-- ---- the program of the next page of a block
+
+abbrev pub nextStep : Shape → Image → ℕ → ℕ → ℕ → ℕ → List ℕ → Step
+nextStep s im b n k a d = program (pageNo s b (blocksOf s im b .filled)) d (spareBytes n k a)
+
+pub record Programmed (s : Shape) (im : Image) (b n k a : ℕ) (d : List ℕ) (im′ : Image) : Type 0 where
+  pub fits : Fits s im′
+  pub blocks : blocksOf s im′ ≡ changed (blocksOf s im) b (oneMore s (blocksOf s im b) n k a)
+  pub others : (j : ℕ) → j ≢ b → SamePages s im im′ j (s .pages)
+  pub earlier : SamePages s im im′ b (blocksOf s im b .filled)
+  pub bytes : pageBytes im′ (pageNo s b (blocksOf s im b .filled)) ≡ d
+  pub address : addressIn (pageSpare im′ (pageNo s b (blocksOf s im b .filled))) ≡ a
+  pub allowed : Allowed s (nextStep s im b n k a d) im
+
+module _ (s : Shape) (im : Image) (w : Fits s im) (b n k a : ℕ) (d : List ℕ) (e : Writable n k a) (j : Joins s (blocksOf s im b) n k a)
+    (long : length d ≡ 512) where
+  abbrev f : ℕ
+  f = blocksOf s im b .filled
+
+  abbrev im′ : Image
+  im′ = stepDone s (nextStep s im b n k a d) im
+
+  hb : b < s .blocks
+  hb =
+      elim (j .own) [
+        | inl t ↦ good-in s im w b (free-good (blocksOf s im b .state) t)
+        | inr t ↦ good-in s im w b (used-good (blocksOf s im b .state) (t .0))
+      ]
+
+  page : Programs s (pageNo s b f) d (spareBytes n k a)
+  page = record { page-in = pageNo-below s b f hb (j .room); bytes-long = long; spare-long = spareBytes-length n k a }
+
+  blank : pageAt im (pageNo s b f) ≡ Erased
+  blank =
+      elim (j .own) [
+        | inl t ↦ free-page s im b f (j .room) (as-read s im w b (λ x. T (isFree (x .state))) hb t)
+        | inr t ↦
+            used-blank s im b f (j .room) (as-read s im w b (λ x. T (isUsed (x .state))) hb (t .0))
+            (as-read s im w b (λ x. x .filled ≤ f) hb (le-refl f))
+      ]
+
+  pub program-done : Programmed s im b n k a d (stepDone s (nextStep s im b n k a d) im)
+  program-done =
+      record {
+        fits = program-fits s im w page;
+        blocks =
+            blocks-changed s im im′ b (oneMore s (blocksOf s im b) n k a) hb
+            (program-blockAt s im w b hb e d long (blocksOf s im b) (sym (blocksOf-at s im b hb)) j)
+            (λ i ne. blockAt-same s im′ im (omega (arith, j .room)) i
+            (λ o h. program-other s im w page (pageNo s i o) (λ q. ne (pageNo-same-block s i b o f h (j .room) q))));
+        others = λ i ne o h. let q = program-other s im w page (pageNo s i o) (λ q. ne (pageNo-same-block s i b o f h (j .room) q)) in
+            (q .bytes-are, q .spare-are);
+        earlier = λ i h.
+            let q = program-other s im w page (pageNo s b i)
+            (λ q. let z : i ≡ f = pageNo-same-place s b b i f (omega (arith, j .room)) (j .room) q in omega arith) in
+            (q .bytes-are, q .spare-are);
+        bytes = program-page s im w page .bytes-are;
+        address = ap addressIn (program-page s im w page .spare-are) ∙ spareBytes-address n k a (e .address);
+        allowed = record {
+          page = page;
+          erased = pageAt-erased im (pageNo s b f) blank;
+          programmed =
+              false-is (all255 (spareBytes n k a)) (spareBytes-not-255 n k a (e .kind));
+        };
+      }

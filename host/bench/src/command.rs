@@ -1,0 +1,81 @@
+//! The commands that are timed, done by the proved layer or by the second program.
+
+use crate::card::{Image, DATA_BYTES, K, L, P, SHAPE};
+use std::ops::Add;
+
+pub enum Command {
+    Format,
+    PowerUp,
+    Read(usize),
+    Lend(usize),
+    Write(usize),
+}
+
+/// What was done: by this it is seen that both do the same.
+#[derive(Clone, Copy, Debug, Default, PartialEq)]
+pub struct Done {
+    pub programs: usize,
+    pub erases: usize,
+    pub pages_read: usize,
+}
+
+impl Add for Done {
+    type Output = Done;
+
+    fn add(self, other: Done) -> Done {
+        Done {
+            programs: self.programs + other.programs,
+            erases: self.erases + other.erases,
+            pages_read: self.pages_read + other.pages_read,
+        }
+    }
+}
+
+/// A way to do a command.
+pub type Doer = fn(&Command, &mut Image) -> Done;
+
+pub fn by_proved(command: &Command, image: &mut Image) -> Done {
+    use hamutsigra::{format, lend, power_up, read, write, Shape, NO_CUT};
+    let shape = Shape { pages: P, logical: L, logs: K };
+    let Image { data, spare } = image;
+    let mut page = [7; DATA_BYTES];
+    let mut pages_read = 0;
+    let answer = match command {
+        Command::Format => format(data, spare, shape, NO_CUT),
+        Command::PowerUp => power_up(data, spare, &mut [0; 2 * L], shape, NO_CUT),
+        Command::Read(number) => {
+            pages_read = 1;
+            read(data, spare, &mut page, shape, *number)
+        }
+        Command::Write(number) => write(data, spare, &page, shape, *number, NO_CUT),
+        Command::Lend(number) => {
+            assert!(lend(data, spare, shape, *number).is_some());
+            return Done::default();
+        }
+    };
+    let steps = answer.expect("the commands timed are all done");
+    Done { programs: steps.programs as usize, erases: steps.erases as usize, pages_read }
+}
+
+pub fn by_second(command: &Command, image: &mut Image) -> Done {
+    use second::{format, lend, power_up, read, write};
+    const NO_CUT: usize = usize::MAX;
+    let Image { data, spare } = image;
+    let mut page = [7; DATA_BYTES];
+    let mut pages_read = 0;
+    let answer = match command {
+        Command::Format => format(data, spare, SHAPE, NO_CUT),
+        Command::PowerUp => power_up(data, spare, &mut [0; 2 * L], SHAPE, NO_CUT),
+        Command::Read(number) => {
+            pages_read = 1;
+            read(data, spare, &mut page, SHAPE, *number)
+        }
+        Command::Write(number) => write(data, spare, &page, SHAPE, *number, NO_CUT),
+        Command::Lend(number) => {
+            assert!(lend(data, spare, SHAPE, *number).is_some());
+            return Done::default();
+        }
+    };
+    assert_eq!(answer.number, 0, "the commands timed are all done");
+    Done { programs: answer.programs, erases: answer.erases, pages_read }
+}

@@ -1,0 +1,69 @@
+//! Why a command of the tool did not succeed, and the exit status that says so.
+
+use hamutsigra::Refusal;
+use std::fmt;
+use std::io;
+use std::path::Path;
+
+/// A failure, with the message for standard error.
+#[derive(Debug)]
+pub enum Failure {
+    /// The card refused: its answer is the exit status.
+    Refused(Refusal, String),
+    /// The arguments are wrong.
+    Usage(String),
+    /// A file is no image.
+    NoImage(String),
+    /// A file cannot be opened and read.
+    CannotRead(String),
+    /// The library did not do what document 01 says.
+    Surprise(String),
+    /// A file cannot be created or replaced.
+    CannotCreate(String),
+    /// Reading or writing broke off.
+    Interrupted(String),
+}
+
+impl Failure {
+    /// The answer of the card, or a number from 64 on as in `sysexits.h`.
+    pub fn exit_status(&self) -> u8 {
+        match self {
+            Failure::Refused(refusal, _) => refusal.number(),
+            Failure::Usage(_) => 64,
+            Failure::NoImage(_) => 65,
+            Failure::CannotRead(_) => 66,
+            Failure::Surprise(_) => 70,
+            Failure::CannotCreate(_) => 73,
+            Failure::Interrupted(_) => 74,
+        }
+    }
+
+    pub fn cannot_read(path: &Path, error: &io::Error) -> Failure {
+        Failure::CannotRead(format!("{}: cannot be read: {error}", path.display()))
+    }
+
+    pub fn cannot_create(path: &Path, error: &io::Error) -> Failure {
+        Failure::CannotCreate(format!("{}: cannot be created or replaced: {error}", path.display()))
+    }
+
+    pub fn interrupted(path: &Path, error: &io::Error) -> Failure {
+        Failure::Interrupted(format!("{}: cannot be written: {error}", path.display()))
+    }
+}
+
+impl fmt::Display for Failure {
+    fn fmt(&self, out: &mut fmt::Formatter) -> fmt::Result {
+        let message = match self {
+            Failure::Refused(refusal, words) => {
+                return write!(out, "answer {}: {words}", refusal.number());
+            }
+            Failure::Usage(message)
+            | Failure::NoImage(message)
+            | Failure::CannotRead(message)
+            | Failure::Surprise(message)
+            | Failure::CannotCreate(message)
+            | Failure::Interrupted(message) => message,
+        };
+        out.write_str(message)
+    }
+}

@@ -1,0 +1,200 @@
+//! The map of a chip that `show` draws, of what the second program sees (see
+//! `inspect`).
+
+use crate::paint::Paint;
+use second::block::{Block, Used};
+use second::blocks::{Blocks, Role};
+use second::card::Card;
+
+/// A card with more blocks than this is drawn in two columns, to fit a screen.
+const MOST_ROWS: usize = 16;
+/// The pages of a block are shown by their logical pages if this is wide enough.
+const WIDTH_FOR_PAGES: usize = 40;
+/// In two columns, how far a block is filled is shown by this many signs.
+const BAR_WIDTH: usize = 8;
+
+/// The map, and below it how many blocks have which role, and what to do.
+pub fn draw_with_summary(card: &Card, paint: Paint) -> String {
+    let blocks = Blocks::on(card);
+    let mut lines = vec![draw(card, paint), summary(card, &blocks)];
+    lines.extend(hints(&blocks).map(String::from));
+    lines.join("\n") + "\n"
+}
+
+/// The map alone.
+pub fn draw(card: &Card, paint: Paint) -> String {
+    let blocks = Blocks::on(card);
+    let style = Style::of(card, &blocks);
+    let numbered = blocks.iter().enumerate();
+    let cells: Vec<Cell> =
+        numbered.map(|(number, block)| Cell::new(number, block, &blocks, &style)).collect();
+    table(&cells, &style, paint).join("\n") + "\n"
+}
+
+/// How the pages of a block are shown.
+enum Style {
+    /// Each by its logical page, so many signs wide.
+    LogicalPages { pages: usize, width: usize },
+    /// Each by a sign.
+    Signs { pages: usize },
+    /// All together by a bar.
+    Bar { pages: usize },
+}
+
+impl Style {
+    fn of(card: &Card, blocks: &Blocks) -> Style {
+        let pages = card.shape.pages;
+        let highest =
+            blocks.iter().filter_map(used).map(|used| (used.logical_block + 1) * pages - 1);
+        let width = highest.max().unwrap_or(0).to_string().len();
+        if card.blocks > MOST_ROWS {
+            Style::Bar { pages }
+        } else if pages * (width + 1) <= WIDTH_FOR_PAGES {
+            Style::LogicalPages { pages, width }
+        } else {
+            Style::Signs { pages }
+        }
+    }
+
+    fn titles(&self) -> [&'static str; 5] {
+        match self {
+            Style::Bar { .. } => ["b", "role    ", "l", "number", "fill"],
+            _ => ["block", "role    ", "logical", "number", "pages"],
+        }
+    }
+
+    fn columns(&self) -> usize {
+        match self {
+            Style::Bar { .. } => 2,
+            _ => 1,
+        }
+    }
+
+    fn pages_of(&self, block: &Block) -> String {
+        let programmed = used(block).map_or(0, |used| used.offsets.len());
+        match (self, block) {
+            (_, Block::Bad | Block::Broken(_)) => String::new(),
+            (Style::LogicalPages { pages, width }, _) => {
+                let held = used(block).into_iter().flat_map(|used| {
+                    used.offsets.iter().map(|offset| used.logical_block * pages + offset)
+                });
+                let mut signs: Vec<String> = held.map(|a| format!("{a:>width$}")).collect();
+                signs.resize_with(*pages, || format!("{:>width$}", "."));
+                signs.join(" ")
+            }
+            (Style::Signs { pages }, _) => "#".repeat(programmed) + &".".repeat(pages - programmed),
+            (Style::Bar { pages }, _) => bar(programmed, *pages),
+        }
+    }
+}
+
+/// A bar in which `#` is full and `+` is partly so.
+fn bar(programmed: usize, pages: usize) -> String {
+    let full = programmed * BAR_WIDTH / pages;
+    let partly = (programmed * BAR_WIDTH).div_ceil(pages) - full;
+    let empty = BAR_WIDTH - full - partly;
+    ["#".repeat(full), "+".repeat(partly), ".".repeat(empty)].concat()
+}
+
+fn used(block: &Block) -> Option<&Used> {
+    match block {
+        Block::Used(used) => Some(used),
+        _ => None,
+    }
+}
+
+/// What is drawn of one block.
+struct Cell {
+    role: Role,
+    fields: [String; 5],
+}
+
+impl Cell {
+    fn new(number: usize, block: &Block, blocks: &Blocks, style: &Style) -> Cell {
+        let role = blocks.role(block);
+        let name = match block {
+            Block::Broken(rule) => format!("BROKEN {rule}"),
+            _ => name(role).to_string(),
+        };
+        let of_used = |field: fn(&Used) -> String| used(block).map_or(String::new(), field);
+        Cell {
+            role,
+            fields: [
+                number.to_string(),
+                name,
+                of_used(|used| used.logical_block.to_string()),
+                of_used(|used| used.number.to_string()),
+                style.pages_of(block),
+            ],
+        }
+    }
+
+    fn needs_attention(&self) -> bool {
+        matches!(self.role, Role::Bad | Role::Broken | Role::Obsolete)
+    }
+}
+
+/// Capitals for what is to stand out without colour.
+fn name(role: Role) -> &'static str {
+    match role {
+        Role::Data => "data",
+        Role::Live => "log",
+        Role::Free => "free",
+        Role::Obsolete => "OBSOLETE",
+        Role::Bad => "BAD",
+        Role::Broken => "BROKEN",
+    }
+}
+
+/// The lines of the table, its titles first.
+fn table(cells: &[Cell], style: &Style, paint: Paint) -> Vec<String> {
+    let titles = style.titles().map(String::from);
+    let widths = [0, 1, 2, 3, 4].map(|i| {
+        let fields = cells.iter().map(|cell| &cell.fields).chain([&titles]);
+        fields.map(|fields| fields[i].len()).max().unwrap_or(0)
+    });
+
+    let height = cells.len().div_ceil(style.columns());
+    let columns: Vec<&[Cell]> = cells.chunks(height).collect();
+    let head = vec![line(' ', &titles, &widths); columns.len()];
+    let mut lines = vec![head.join("   ").trim_end().to_string()];
+    for row in 0..height {
+        let cells = columns.iter().filter_map(|column| column.get(row));
+        let drawn: Vec<String> = cells
+            .map(|cell| {
+                let mark = if cell.needs_attention() { '!' } else { ' ' };
+                paint.role(cell.role, &line(mark, &cell.fields, &widths))
+            })
+            .collect();
+        lines.push(drawn.join("   ").trim_end().to_string());
+    }
+    lines
+}
+
+fn line(mark: char, fields: &[String; 5], widths: &[usize; 5]) -> String {
+    let [block, role, logical, number, pages] = fields;
+    let [b, r, l, n, p] = *widths;
+    format!("{mark} {block:>b$}  {role:<r$}  {logical:>l$}  {number:>n$}  {pages:<p$}")
+}
+
+fn summary(card: &Card, blocks: &Blocks) -> String {
+    let roles = [Role::Data, Role::Live, Role::Free, Role::Obsolete, Role::Bad, Role::Broken];
+    let counts = roles.into_iter().filter_map(|role| {
+        let count = blocks.iter().filter(|block| blocks.role(block) == role).count();
+        match role {
+            Role::Live => Some(format!("{count} log (at most {})", card.shape.logs)),
+            Role::Data | Role::Free => Some(format!("{count} {}", name(role))),
+            _ => (count > 0).then(|| format!("{count} {}", name(role))),
+        }
+    });
+    let counts: Vec<String> = counts.collect();
+    format!("{} blocks of {} pages: {}", card.blocks, card.shape.pages, counts.join(", "))
+}
+
+fn hints(blocks: &Blocks) -> impl Iterator<Item = &'static str> {
+    let ill_formed = !blocks.breaches().is_empty();
+    let obsolete = !blocks.obsolete().is_empty();
+    let ill_formed = ill_formed.then_some("! not well-formed: `card check` says where");
+    let obsolete = obsolete.then_some("! obsolete blocks: `card power-up` erases them");
+    ill_formed.into_iter().chain(obsolete)
+}

@@ -1,0 +1,108 @@
+//! Images in two files: data and spare bytes.
+
+mod common;
+
+use common::{dump, Folder, SHAPE_ARGUMENTS};
+use std::fs;
+
+const PAIR: &str = "--data d --spare s -P 4 -L 2 -K 1";
+
+/// The card after case 4 of document 01, in `d` and `s`, and as a dump as well.
+fn pair() -> Folder {
+    let folder = Folder::with_card();
+    folder.card("new --data d --spare s -P 4 -B 4").expect_done();
+    for (number, fill) in [(1, 10), (0, 11), (1, 12), (2, 13), (3, 14)] {
+        folder.card_with_input(&format!("write {number} {PAIR}"), &[fill; 512]).expect_done();
+        folder.write(number, fill, "").expect_done();
+    }
+    folder
+}
+
+#[test]
+fn a_pair_has_the_bytes_of_the_dump() {
+    let folder = pair();
+    assert_eq!(dump(&folder.bytes("d"), &folder.bytes("s")), folder.bytes("card.img"));
+    assert_eq!(folder.names(), ["card.img", "d", "s"]);
+}
+
+#[test]
+fn every_verb_takes_a_pair() {
+    let folder = pair();
+    for (verb, rest) in [("show", ""), ("check", "4"), ("read", "1"), ("power-up", "")] {
+        let of_pair = folder.card(&format!("{verb} {rest} {PAIR}"));
+        assert_eq!(of_pair.expect_done().out, folder.on_card(verb, rest).out);
+    }
+    let text = folder.card(&format!("lend 2 {PAIR}")).expect_done().text.clone();
+    assert_eq!(text, "page 2 is in block 1, page 2\ndata image: bytes 3072 to 3583\n");
+    folder.card_with_input(&format!("write 4 --cut 5 {PAIR}"), &[15; 512]).expect_failure(8, &[]);
+    folder.card(&format!("power-up {PAIR}")).expect_done();
+    folder.card(&format!("format {PAIR}")).expect_done();
+    assert_eq!((folder.bytes("d"), folder.bytes("s")), (vec![255; 8192], vec![255; 256]));
+}
+
+#[test]
+fn a_refusal_leaves_both_files() {
+    let folder = pair();
+    let before = (folder.state("d"), folder.state("s"));
+    folder.card_with_input(&format!("write 8 {PAIR}"), &[15; 512]).expect_failure(3, &[]);
+    assert_eq!((folder.state("d"), folder.state("s")), before);
+}
+
+#[test]
+fn lengths_that_do_not_fit() {
+    let folder = pair();
+    // Not whole pages.
+    folder.put("odd", &[255; 511]);
+    let words = ["odd: no image: its 511 bytes are not whole pages of 512 bytes"];
+    folder.card(&format!("show --data odd --spare s {SHAPE_ARGUMENTS}")).expect_failure(65, &words);
+    let words = ["odd: no image: its 511 bytes are not whole pages of 16 bytes"];
+    folder.card(&format!("show --data d --spare odd {SHAPE_ARGUMENTS}")).expect_failure(65, &words);
+    // Whole pages, but not as many on both sides: for the card to answer.
+    folder.put("short", &[255; 240]);
+    let line = format!("read 0 --data d --spare short {SHAPE_ARGUMENTS}");
+    folder.card(&line).expect_failure(1, &["8192 data bytes and 240 spare bytes"]);
+    folder
+        .card(&format!("read 0 --data d --spare none {SHAPE_ARGUMENTS}"))
+        .expect_failure(66, &["none"]);
+}
+
+/// The state between the two renames: the new data are in place, the new spare
+/// bytes still beside the old ones.
+#[test]
+fn an_interrupted_replacement_is_finished() {
+    let folder = pair();
+    let old_spare = folder.bytes("s");
+    folder.card_with_input(&format!("write 4 {PAIR}"), &[15; 512]).expect_done();
+    let new = (folder.bytes("d"), folder.bytes("s"));
+    folder.put("s.card-new", &new.1);
+    folder.put("s", &old_spare);
+
+    assert_eq!(folder.card(&format!("read 4 {PAIR}")).expect_done().out, [15; 512]);
+    assert_eq!((folder.bytes("d"), folder.bytes("s")), new);
+    assert_eq!(folder.names(), ["card.img", "d", "s"]);
+}
+
+/// The state before the first rename: both old files are in place.
+#[test]
+fn a_replacement_that_had_not_begun_is_dropped() {
+    let folder = pair();
+    let old = (folder.bytes("d"), folder.bytes("s"));
+    folder.put("d.card-new", &[1; 512]);
+    folder.put("s.card-new", &[1; 16]);
+    assert_eq!(folder.card(&format!("read 3 {PAIR}")).expect_done().out, [14; 512]);
+    assert_eq!((folder.bytes("d"), folder.bytes("s")), old);
+
+    folder.card_with_input(&format!("write 4 {PAIR}"), &[15; 512]).expect_done();
+    assert_eq!(folder.names(), ["card.img", "d", "s"]);
+}
+
+#[test]
+fn a_second_file_that_cannot_be_made_leaves_both_old_ones() {
+    let folder = pair();
+    let before = (folder.state("d"), folder.state("s"));
+    fs::create_dir(folder.path("s.card-new")).expect("a folder in the way");
+    folder.put("d.card-new", b"left by a crash");
+    let run = folder.card_with_input(&format!("write 4 {PAIR}"), &[15; 512]);
+    run.expect_failure(73, &["s.card-new: cannot be created"]);
+    assert_eq!((folder.state("d"), folder.state("s")), before);
+}

@@ -1,0 +1,140 @@
+//! Every refusal of every verb: its number as exit status, its meaning and what to
+//! do on standard error, and nothing written.
+
+mod common;
+
+use common::{Folder, PAGE_IN_DUMP, SHAPE_ARGUMENTS};
+
+/// Runs a verb that must be refused and leave the file as it is.
+#[track_caller]
+fn refused(folder: &Folder, line: &str, input: &[u8], answer: i32, words: &[&str]) {
+    let before = folder.state("card.img");
+    let run = folder.card_with_input(line, input);
+    run.expect_failure(answer, &[&format!("card: answer {answer}: ")])
+        .expect_failure(answer, words);
+    assert_eq!(run.out, [], "nothing on standard output");
+    assert_eq!(folder.state("card.img"), before);
+    assert_eq!(folder.names(), ["card.img"]);
+}
+
+fn with_spare(block: usize, spare: &[u8]) -> Folder {
+    let folder = Folder::with_card();
+    let mut image = folder.bytes("card.img");
+    let at = block * 4 * PAGE_IN_DUMP + 512;
+    image[at..at + spare.len()].copy_from_slice(spare);
+    folder.put("card.img", &image);
+    folder
+}
+
+#[test]
+fn answer_1_outside_the_limits() {
+    let folder = Folder::with_card();
+    for shape in ["-P 0 -L 2 -K 1", "-P 33 -L 2 -K 1", "-P 4 -L 0 -K 1", "-P 4 -L 2 -K 0"] {
+        for verb in ["format card.img", "power-up card.img", "read card.img 0", "show card.img"] {
+            refused(&folder, &format!("{verb} {shape}"), &[], 1, &["the limits", "Check -P"]);
+        }
+    }
+    // 16 pages are no whole number of blocks of 5, and too few blocks of 6.
+    for pages in [5, 6] {
+        let line = format!("write card.img 0 -P {pages} -L 2 -K 1");
+        refused(&folder, &line, &[1; 512], 1, &["8192 data bytes and 256 spare bytes"]);
+        refused(&folder, &format!("lend card.img 0 -P {pages} -L 2 -K 1"), &[], 1, &[]);
+    }
+}
+
+#[test]
+fn answer_2_page_not_512_bytes() {
+    let folder = Folder::with_card();
+    let line = format!("write card.img 8 {SHAPE_ARGUMENTS}");
+    for length in [0, 1, 511, 513, 100_000] {
+        refused(&folder, &line, &vec![1; length], 2, &["512 bytes long", "exactly 512 bytes"]);
+    }
+    let line = "power-up card.img -P 4 -L 9223372036854775808 -K 1";
+    refused(&folder, line, &[], 2, &["no table", "Check -L"]);
+}
+
+#[test]
+fn answer_3_out_of_range() {
+    let folder = Folder::with_card();
+    for number in ["8", "18446744073709551615"] {
+        let words = [&format!("page {number} is out of range"), "pages 0 to 7", "Check the page"];
+        for verb in ["read", "lend", "write"] {
+            let line = format!("{verb} card.img {number} {SHAPE_ARGUMENTS}");
+            refused(&folder, &line, &[1; 512], 3, &words);
+        }
+    }
+}
+
+#[test]
+fn answer_4_too_few_good_blocks() {
+    let folder = with_spare(1, &[255, 255, 255, 255, 255, 0]);
+    for verb in ["format card.img", "power-up card.img", "read card.img 0", "write card.img 0"] {
+        let words = ["fewer good blocks than the 4 needed", "smaller L or K"];
+        refused(&folder, &format!("{verb} {SHAPE_ARGUMENTS}"), &[1; 512], 4, &words);
+    }
+}
+
+#[test]
+fn answer_5_ill_formed() {
+    let folder = with_spare(1, &[1, 0, 0, 0, 99]);
+    for verb in ["power-up card.img", "read card.img 0", "lend card.img 0", "write card.img 0"] {
+        let words = ["not well-formed", "`card check`", "`card format`"];
+        refused(&folder, &format!("{verb} {SHAPE_ARGUMENTS}"), &[1; 512], 5, &words);
+    }
+    assert_eq!(folder.on_card("check", "").status, 5);
+    folder.on_card("format", "").expect_done();
+}
+
+#[test]
+fn answer_6_needs_power_up() {
+    let folder = with_spare(0, &[1, 0, 0, 0, 15, 255, 0, 0]);
+    let line = format!("write card.img 0 {SHAPE_ARGUMENTS}");
+    refused(&folder, &line, &[1; 512], 6, &["obsolete", "Run `card power-up` first"]);
+    folder.on_card("power-up", "").expect_done();
+    folder.write(0, 1, "").expect_done();
+}
+
+#[test]
+fn answer_7_out_of_numbers() {
+    let folder = with_spare(0, &[254, 255, 255, 255, 240, 255, 0, 0]);
+    let line = format!("write card.img 4 {SHAPE_ARGUMENTS}");
+    refused(&folder, &line, &[1; 512], 7, &["sequence numbers", "Read the pages out"]);
+    folder.write(0, 1, "").expect_done();
+}
+
+#[test]
+fn answer_8_pulled_out() {
+    // Cut at 0 nothing is done, so nothing is written either.
+    let folder = Folder::after_case_4();
+    let line = format!("write card.img 4 --cut 0 {SHAPE_ARGUMENTS}");
+    refused(&folder, &line, &[1; 512], 8, &["0 programs and 0 erases", "Run `card power-up`"]);
+    refused(&folder, &format!("format card.img --cut 0 {SHAPE_ARGUMENTS}"), &[], 8, &[]);
+
+    // Else the steps done are in the file.
+    let before = folder.bytes("card.img");
+    let run = folder.write(4, 15, "--cut 3");
+    run.expect_failure(8, &["answer 8", "3 programs and 0 erases", "Run `card power-up`"]);
+    let after = folder.bytes("card.img");
+    let changed = (0..16).filter(|page| {
+        let bytes = page * PAGE_IN_DUMP..(page + 1) * PAGE_IN_DUMP;
+        before[bytes.clone()] != after[bytes]
+    });
+    assert_eq!(changed.collect::<Vec<_>>(), [8, 9, 10]);
+
+    // The other verbs that can be cut.
+    folder.write(4, 15, "").expect_failure(6, &[]);
+    folder.on_card("power-up", "--cut 0").expect_failure(8, &["Run `card power-up`"]);
+    folder.on_card("power-up", "--cut 1").expect_done();
+    folder.on_card("format", "--cut 1").expect_failure(8, &["Run `card format` again"]);
+    folder.on_card("format", "--cut 1").expect_done();
+}
+
+#[test]
+fn the_lowest_number_is_the_answer() {
+    let folder = with_spare(1, &[1, 0, 0, 0, 99]);
+    refused(&folder, "write card.img 99 -P 5 -L 2 -K 1", &[1; 5], 1, &[]);
+    refused(&folder, "write card.img 99 -P 4 -L 2 -K 9", &[1; 5], 2, &[]);
+    refused(&folder, "write card.img 99 -P 4 -L 2 -K 9", &[1; 512], 3, &[]);
+    refused(&folder, "write card.img 1 -P 4 -L 2 -K 9", &[1; 512], 4, &[]);
+    refused(&folder, "write card.img 1 -P 4 -L 2 -K 1", &[1; 512], 5, &[]);
+}

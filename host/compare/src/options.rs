@@ -1,0 +1,76 @@
+//! What `compare` is asked to do.
+
+use crate::layer::{Layer, FAULTY, PROVED};
+use std::time::Duration;
+
+pub const HELP: &str = "\
+compare [--cards N] [--seconds S] [--seed X] [--fault NAME]
+
+Runs the proved layer and the second program in lockstep over random cards and
+compares all that they answer and leave behind. Without a number of cards it runs for
+30 seconds. On a difference it prints the first command that differs and how to replay
+it, and ends with exit status 1; for wrong arguments 64.
+
+  --cards N      stop after N cards
+  --seconds S    stop after S seconds
+  --seed X       the seed of the first card (1); the next one has the next seed
+  --fault NAME   test, in the place of the proved layer, the second program with a
+                 fault planted: first-copy, early-erase, half-copy, erased-by-data or
+                 complete-out-of-order
+";
+
+const SECONDS: Duration = Duration::from_secs(30);
+
+pub struct Options {
+    /// At most so many cards ..
+    pub cards: u64,
+    /// .. and, if given, no longer than this.
+    pub seconds: Option<Duration>,
+    pub seed: u64,
+    fault: Option<Layer>,
+}
+
+/// Reads the arguments that follow the name of the program; none if help is wanted.
+pub fn parse(arguments: impl IntoIterator<Item = String>) -> Result<Option<Options>, String> {
+    let (mut cards, mut seconds, mut seed, mut fault) = (None, None, 1, None);
+    let mut arguments = arguments.into_iter();
+    while let Some(name) = arguments.next() {
+        if name == "--help" || name == "-h" {
+            return Ok(None);
+        }
+        let mut value = || arguments.next().ok_or(format!("{name} needs a value"));
+        match name.as_str() {
+            "--cards" => cards = Some(number(&name, &value()?)?),
+            "--seconds" => seconds = Some(Duration::from_secs(number(&name, &value()?)?)),
+            "--seed" => seed = number(&name, &value()?)?,
+            "--fault" => fault = Some(planted(&value()?)?),
+            _ => return Err(format!("no option is called {name}")),
+        }
+    }
+    if cards.is_none() && seconds.is_none() {
+        seconds = Some(SECONDS);
+    }
+    Ok(Some(Options { cards: cards.unwrap_or(u64::MAX), seconds, seed, fault }))
+}
+
+impl Options {
+    /// The layer that is tested.
+    pub fn tested(&self) -> Layer {
+        self.fault.unwrap_or(PROVED)
+    }
+
+    /// The command that plays the one card with this seed again.
+    pub fn replay(&self, seed: u64) -> String {
+        let fault = self.fault.map_or(String::new(), |fault| format!(" --fault {}", fault.name));
+        format!("compare --cards 1 --seed {seed}{fault}")
+    }
+}
+
+fn number(name: &str, value: &str) -> Result<u64, String> {
+    value.parse().map_err(|_| format!("{name} is a number from 0 to {}, not {value}", u64::MAX))
+}
+
+fn planted(name: &str) -> Result<Layer, String> {
+    let fault = FAULTY.into_iter().find(|fault| fault.name == name);
+    fault.ok_or_else(|| format!("no fault is called {name}"))
+}

@@ -1,0 +1,33 @@
+//! A line that says how far the comparison has come, on a terminal only.
+
+use crate::tally::Tally;
+use std::io::{self, IsTerminal, Write};
+use std::time::{Duration, Instant};
+
+const EVERY: Duration = Duration::from_millis(200);
+
+pub struct Progress {
+    wanted: bool,
+    last: Instant,
+}
+
+impl Progress {
+    pub fn new() -> Progress {
+        Progress { wanted: io::stderr().is_terminal(), last: Instant::now() }
+    }
+
+    pub fn show(&mut self, tally: &Tally) {
+        if self.wanted && self.last.elapsed() >= EVERY {
+            self.last = Instant::now();
+            eprint!("\r{} ", tally.size());
+            let _ = io::stderr().flush();
+        }
+    }
+
+    /// Takes the line away, so that what follows stands at its place.
+    pub fn clear(&self) {
+        if self.wanted {
+            eprint!("\r\x1b[K");
+        }
+    }
+}

@@ -1,0 +1,89 @@
+//! The comparison as it is run: that it compares, finds what is planted, and can
+//! be replayed.
+
+use std::process::Command;
+
+const FAULTS: [&str; 5] =
+    ["first-copy", "early-erase", "half-copy", "erased-by-data", "complete-out-of-order"];
+
+struct Run {
+    status: Option<i32>,
+    text: String,
+    error: String,
+}
+
+fn compare(line: &str) -> Run {
+    let mut command = Command::new(env!("CARGO_BIN_EXE_compare"));
+    let output = command.args(line.split_whitespace()).output().expect("compare runs");
+    Run {
+        status: output.status.code(),
+        text: String::from_utf8(output.stdout).expect("text"),
+        error: String::from_utf8(output.stderr).expect("text"),
+    }
+}
+
+#[test]
+fn the_layers_do_not_differ() {
+    let run = compare("--cards 60 --seed 7");
+    assert_eq!((run.status, run.error.as_str()), (Some(0), ""));
+    let last = run.text.lines().last().expect("a last line");
+    assert!(
+        last.starts_with("compare: ") && last.ends_with(" commands on 60 cards, 0 differences")
+    );
+}
+
+#[test]
+fn a_seed_gives_the_same_run_again() {
+    assert_eq!(compare("--cards 20 --seed 5").text, compare("--cards 20 --seed 5").text);
+    assert_ne!(compare("--cards 20 --seed 5").text, compare("--cards 20 --seed 6").text);
+}
+
+#[test]
+fn a_run_can_be_bounded_by_time() {
+    let run = compare("--seconds 0");
+    assert_eq!(run.status, Some(0));
+    assert!(run.text.ends_with("compare: 0 commands on 0 cards, 0 differences\n"));
+}
+
+/// Every planted fault is found, from whatever seed.
+#[test]
+fn planted_faults_are_found() {
+    for fault in FAULTS {
+        for seed in [1, 1000] {
+            let run = compare(&format!("--cards 200 --seed {seed} --fault {fault}"));
+            assert_eq!(run.status, Some(1), "{fault} from seed {seed}:\n{}", run.text);
+            assert!(run.text.contains(&format!("\n  {fault}: ")), "{}", run.text);
+            assert!(run.text.contains("\n  the second program: "), "{}", run.text);
+            assert!(run.text.contains(", 1 difference, with seed "), "{}", run.text);
+        }
+    }
+}
+
+#[test]
+fn a_difference_can_be_replayed() {
+    let run = compare("--cards 200 --seed 2000 --fault early-erase");
+    let replay = run.text.lines().find_map(|line| line.strip_prefix("replay: compare "));
+    let again = compare(replay.expect("a command that replays it"));
+    assert_eq!(again.status, Some(1));
+    let difference = |text: &str| text.split("replay: ").next().map(str::to_string);
+    assert_eq!(difference(&again.text), difference(&run.text));
+}
+
+#[test]
+fn arguments_that_are_wrong() {
+    for (line, words) in [
+        ("--cards", "--cards needs a value"),
+        ("--cards many", "--cards is a number"),
+        ("--seed -1", "--seed is a number"),
+        ("--fault none", "no fault is called none"),
+        ("--speed 1", "no option is called --speed"),
+        ("5", "no option is called 5"),
+    ] {
+        let run = compare(line);
+        assert_eq!(run.status, Some(64));
+        assert!(run.error.starts_with(&format!("compare: {words}")), "{}", run.error);
+    }
+    let run = compare("--help");
+    assert_eq!(run.status, Some(0));
+    assert!(FAULTS.iter().all(|fault| run.text.contains(fault)));
+}

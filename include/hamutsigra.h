@@ -1,0 +1,169 @@
+/*
+ * Hamutsigra: the flash translation layer of a lab card, for firmware.
+ *
+ * A raw NAND chip is lent as two images, its data bytes and its spare bytes, and
+ * becomes L x P numbered pages of 512 bytes that survive a card pulled out at any
+ * moment. The rules are those of document 01; "8", "power-up" or "live" in the
+ * comments here mean what they mean there. The functions are total: any shape,
+ * any length and any bytes have an answer. They allocate nothing, keep nothing
+ * between calls and touch nothing but what is lent to them.
+ *
+ * In short:
+ *
+ *     static uint8_t data[64 * 32 * HAMUTSIGRA_DATA_BYTES];     64 blocks ..
+ *     static uint8_t spare[64 * 32 * HAMUTSIGRA_SPARE_BYTES];   .. of 32 pages
+ *     uint16_t table[2 * 59];                                   59 logical blocks
+ *     uint64_t result;
+ *
+ *     result = hamutsigra_power_up(data, sizeof data, spare, sizeof spare,
+ *                                  table, 2 * 59, 32, 59, 4, HAMUTSIGRA_NO_CUT);
+ *     if (hamutsigra_answer_of(result) == HAMUTSIGRA_DONE) {
+ *         result = hamutsigra_write(data, sizeof data, spare, sizeof spare,
+ *                                   page, HAMUTSIGRA_DATA_BYTES, 32, 59, 4,
+ *                                   number, HAMUTSIGRA_NO_CUT);
+ *     }
+ *
+ * What the parameters have in common:
+ *
+ *   data, data_len     the data image: B x P x 512 bytes, pages end to end
+ *   spare, spare_len   the spare image: B x P x 16 bytes, for the same B
+ *   pages              P, the pages of a block: 2 to 32
+ *   logical            L, the logical blocks: at least 1
+ *   logs               K, the log blocks at most: at least 1
+ *   number             the logical page: 0 to L x P - 1
+ *   cut                the steps after which the card is pulled out;
+ *                      HAMUTSIGRA_NO_CUT for never
+ *
+ * B is 3 to 64 and follows from the lengths. The shape is not stored on the chip:
+ * give every command of a card the same P, L and K.
+ *
+ * What is lent must be what its length says: a pointer to at least that many
+ * bytes (for the table: numbers), not null, even where the length is 0. The parts
+ * lent to one call must not overlap.
+ */
+#ifndef HAMUTSIGRA_H
+#define HAMUTSIGRA_H
+
+#include <stddef.h>
+#include <stdint.h>
+
+#ifdef __cplusplus
+extern "C" {
+#endif
+
+/* A page has 512 data bytes and 16 spare bytes. */
+#define HAMUTSIGRA_DATA_BYTES 512
+#define HAMUTSIGRA_SPARE_BYTES 16
+
+/* As cut: the card is not pulled out. No list of steps is this long. */
+#define HAMUTSIGRA_NO_CUT ((size_t)-1)
+
+/* In the table of power-up: no such block. */
+#define HAMUTSIGRA_NO_BLOCK ((uint16_t)65535)
+
+/* From hamutsigra_lend: the part is empty. */
+#define HAMUTSIGRA_NOT_LENT ((uint64_t)-1)
+
+/*
+ * What the card replies. The lowest number that applies is the answer. 1 to 7
+ * change nothing; 8 leaves exactly the steps done.
+ */
+enum hamutsigra_answer {
+    /* All done. */
+    HAMUTSIGRA_DONE = 0,
+    /* Shape or image length outside the limits. */
+    HAMUTSIGRA_OUTSIDE_LIMITS = 1,
+    /* Page buffer not 512 long, table not 2 x L. */
+    HAMUTSIGRA_WRONG_BUFFER = 2,
+    /* Logical page out of range. */
+    HAMUTSIGRA_OUT_OF_RANGE = 3,
+    /* Fewer good blocks than L + K + 1. */
+    HAMUTSIGRA_TOO_FEW_BLOCKS = 4,
+    /* The image is not well-formed: W1 to W7 not all true. */
+    HAMUTSIGRA_ILL_FORMED = 5,
+    /* An obsolete block exists: run power-up. */
+    HAMUTSIGRA_NEEDS_POWER_UP = 6,
+    /* The sequence numbers do not suffice: none above 4,294,967,294. */
+    HAMUTSIGRA_OUT_OF_NUMBERS = 7,
+    /* Cut number below the length of the list of steps. */
+    HAMUTSIGRA_CUT = 8
+};
+
+/*
+ * Erases each good block that is not free. Answers 0, 1, 4 or 8.
+ */
+uint64_t hamutsigra_format(uint8_t *data, size_t data_len,
+                           uint8_t *spare, size_t spare_len,
+                           size_t pages, size_t logical, size_t logs,
+                           size_t cut);
+
+/*
+ * Erases each obsolete block. Run it whenever the card gets power, before the
+ * first write. Answers 0, 1, 2, 4, 5 or 8.
+ *
+ * The table has 2 x L numbers. With answer 0 they are, for logical block l, its
+ * data block at 2 x l and its live log block at 2 x l + 1, each
+ * HAMUTSIGRA_NO_BLOCK for none; with another answer they are left as they were.
+ */
+uint64_t hamutsigra_power_up(uint8_t *data, size_t data_len,
+                             uint8_t *spare, size_t spare_len,
+                             uint16_t *table, size_t table_len,
+                             size_t pages, size_t logical, size_t logs,
+                             size_t cut);
+
+/*
+ * Puts the content of a logical page into the 512 bytes of page: 255s where it
+ * was never written. Answers 0, 1, 2, 3, 4 or 5; with another answer than 0 the
+ * page is left as it was.
+ */
+uint64_t hamutsigra_read(const uint8_t *data, size_t data_len,
+                         const uint8_t *spare, size_t spare_len,
+                         uint8_t *page, size_t page_len,
+                         size_t pages, size_t logical, size_t logs,
+                         size_t number);
+
+/*
+ * Makes the 512 bytes of page the content of a logical page. Answers 0 to 8. A
+ * cut write has happened exactly if the program of its own page was done.
+ */
+uint64_t hamutsigra_write(uint8_t *data, size_t data_len,
+                          uint8_t *spare, size_t spare_len,
+                          const uint8_t *page, size_t page_len,
+                          size_t pages, size_t logical, size_t logs,
+                          size_t number, size_t cut);
+
+/*
+ * Says where the content of a logical page lies: the byte of data at which its
+ * 512 bytes start. HAMUTSIGRA_NOT_LENT when read would refuse (its buffer check
+ * aside), or when no flash page holds the content. This is a place, not a result
+ * for the helpers below.
+ */
+uint64_t hamutsigra_lend(const uint8_t *data, size_t data_len,
+                         const uint8_t *spare, size_t spare_len,
+                         size_t pages, size_t logical, size_t logs,
+                         size_t number);
+
+/*
+ * A result taken apart: the answer in bits 0 to 7, the pages programmed in bits 8
+ * to 31, the blocks erased in bits 32 to 63.
+ */
+static inline enum hamutsigra_answer hamutsigra_answer_of(uint64_t result)
+{
+    return (enum hamutsigra_answer)(result & 0xff);
+}
+
+static inline uint32_t hamutsigra_programs_of(uint64_t result)
+{
+    return (uint32_t)(result >> 8) & 0xffffff;
+}
+
+static inline uint32_t hamutsigra_erases_of(uint64_t result)
+{
+    return (uint32_t)(result >> 32);
+}
+
+#ifdef __cplusplus
+}
+#endif
+
+#endif
