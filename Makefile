@@ -21,7 +21,9 @@ ifdef HAMUTSIGRA_LIB_DIR
 lib: ;
 else
 HAMUTSIGRA_LIB_DIR := $(CURDIR)/target/staticlib
+# rt check proves several crates at a time, rt staticlib one after the other.
 lib:
+	rt check card
 	rt staticlib hamutsigra
 endif
 export HAMUTSIGRA_LIB_DIR

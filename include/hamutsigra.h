@@ -2,24 +2,25 @@
  * Hamutsigra: the flash translation layer of a lab card, for firmware.
  *
  * A raw NAND chip is lent as two images, its data bytes and its spare bytes, and
- * becomes L x P numbered pages of 512 bytes that survive a card pulled out at any
- * moment. The rules are those of document 01; "8", "power-up" or "live" in the
- * comments here mean what they mean there. The functions are total: any shape,
- * any length and any bytes have an answer. They allocate nothing, keep nothing
- * between calls and touch nothing but what is lent to them.
+ * becomes L x P numbered pages of 512 bytes that survive a card pulled out between
+ * any two steps: a page programmed, a block erased. What a chip does when power
+ * fails inside a step is not covered. The rules are those of document 01; "8",
+ * "power-up" or "live" in the comments here mean what they mean there. The functions
+ * are total: any shape, any length and any bytes have an answer. They are proved for
+ * a size_t of 64 bits.
  *
  * In short:
  *
  *     static uint8_t data[64 * 32 * HAMUTSIGRA_DATA_BYTES];     64 blocks ..
  *     static uint8_t spare[64 * 32 * HAMUTSIGRA_SPARE_BYTES];   .. of 32 pages
- *     uint16_t table[2 * 59];                                   59 logical blocks
+ *     uint16_t table[2 * 56];         56 logical blocks: 3 of the 64 may be bad
  *     uint64_t result;
  *
  *     result = hamutsigra_power_up(data, sizeof data, spare, sizeof spare,
- *                                  table, 2 * 59, 32, 59, 4, HAMUTSIGRA_NO_CUT);
+ *                                  table, 2 * 56, 32, 56, 4, HAMUTSIGRA_NO_CUT);
  *     if (hamutsigra_answer_of(result) == HAMUTSIGRA_DONE) {
  *         result = hamutsigra_write(data, sizeof data, spare, sizeof spare,
- *                                   page, HAMUTSIGRA_DATA_BYTES, 32, 59, 4,
+ *                                   page, HAMUTSIGRA_DATA_BYTES, 32, 56, 4,
  *                                   number, HAMUTSIGRA_NO_CUT);
  *     }
  *
@@ -27,6 +28,8 @@
  *
  *   data, data_len     the data image: B x P x 512 bytes, pages end to end
  *   spare, spare_len   the spare image: B x P x 16 bytes, for the same B
+ *   page, page_len     the bytes of a logical page: 512
+ *   table, table_len   the table of power-up: 2 x L, counted in numbers, not bytes
  *   pages              P, the pages of a block: 2 to 32
  *   logical            L, the logical blocks: at least 1
  *   logs               K, the log blocks at most: at least 1
@@ -37,9 +40,24 @@
  * B is 3 to 64 and follows from the lengths. The shape is not stored on the chip:
  * give every command of a card the same P, L and K.
  *
- * What is lent must be what its length says: a pointer to at least that many
- * bytes (for the table: numbers), not null, even where the length is 0. The parts
- * lent to one call must not overlap.
+ * What is lent:
+ *
+ *   - A part must be what its length says: a pointer to at least that many bytes
+ *     (for the table: numbers), not null, even where the length is 0. Bytes may
+ *     start anywhere; the table is aligned as a uint16_t is.
+ *   - The parts lent to one call must not overlap. A page of the image is copied
+ *     before it is given to hamutsigra_write.
+ *   - It is lent for the call alone: nothing is kept after it, and nothing but what
+ *     is lent is touched.
+ *
+ * What a call takes:
+ *
+ *   - No heap, no recursion, and less than 5,000 bytes of stack on x86-64, whatever
+ *     the shape (docs/PERFORMANCE.md has the figure of each function).
+ *   - The time to read the whole image, however little the command changes.
+ *   - memcpy and memset of the platform. Nothing else is linked to.
+ *   - No state of its own. Calls may interrupt each other or run side by side as long
+ *     as none is lent what another one writes.
  */
 #ifndef HAMUTSIGRA_H
 #define HAMUTSIGRA_H
@@ -66,7 +84,8 @@ extern "C" {
 
 /*
  * What the card replies. The lowest number that applies is the answer. 1 to 7
- * change nothing; 8 leaves exactly the steps done.
+ * change nothing and have zero counts; 8 leaves exactly the steps done, and counts
+ * them.
  */
 enum hamutsigra_answer {
     /* All done. */
@@ -90,7 +109,11 @@ enum hamutsigra_answer {
 };
 
 /*
- * Erases each good block that is not free. Answers 0, 1, 4 or 8.
+ * Makes an empty card: erases each good block that is not free, whatever is in it.
+ * Bad blocks are left as they are. Answers 0, 1, 4 or 8; after 8 format again.
+ *
+ * The images are what the chip has, all 255 where it is erased. Where none has been
+ * read from a chip, fill them with 255: images of zeros have bad blocks only.
  */
 uint64_t hamutsigra_format(uint8_t *data, size_t data_len,
                            uint8_t *spare, size_t spare_len,
@@ -99,7 +122,7 @@ uint64_t hamutsigra_format(uint8_t *data, size_t data_len,
 
 /*
  * Erases each obsolete block. Run it whenever the card gets power, before the
- * first write. Answers 0, 1, 2, 4, 5 or 8.
+ * first write. Answers 0, 1, 2, 4, 5 or 8; after 8 run it again.
  *
  * The table has 2 x L numbers. With answer 0 they are, for logical block l, its
  * data block at 2 x l and its live log block at 2 x l + 1, each
@@ -113,8 +136,9 @@ uint64_t hamutsigra_power_up(uint8_t *data, size_t data_len,
 
 /*
  * Puts the content of a logical page into the 512 bytes of page: 255s where it
- * was never written. Answers 0, 1, 2, 3, 4 or 5; with another answer than 0 the
- * page is left as it was.
+ * was never written. Answers 0, 1, 2, 3, 4 or 5, always with zero counts; with
+ * another answer than 0 the page is left as it was. It needs no power-up before
+ * it: obsolete blocks have no part in the content.
  */
 uint64_t hamutsigra_read(const uint8_t *data, size_t data_len,
                          const uint8_t *spare, size_t spare_len,
@@ -123,8 +147,9 @@ uint64_t hamutsigra_read(const uint8_t *data, size_t data_len,
                          size_t number);
 
 /*
- * Makes the 512 bytes of page the content of a logical page. Answers 0 to 8. A
- * cut write has happened exactly if the program of its own page was done.
+ * Makes the 512 bytes of page the content of a logical page, with P + 1 programs and
+ * 2 erases at most. Answers 0 to 8; after 6 and 8 run power-up. A cut write has
+ * happened exactly if the program of its own page was done.
  */
 uint64_t hamutsigra_write(uint8_t *data, size_t data_len,
                           uint8_t *spare, size_t spare_len,
@@ -135,7 +160,8 @@ uint64_t hamutsigra_write(uint8_t *data, size_t data_len,
 /*
  * Says where the content of a logical page lies: the byte of data at which its
  * 512 bytes start. HAMUTSIGRA_NOT_LENT when read would refuse (its buffer check
- * aside), or when no flash page holds the content. This is a place, not a result
+ * aside), or when no flash page holds the content, which is then all 255. The place
+ * is good until the next command that changes the image. It is a place, not a result
  * for the helpers below.
  */
 uint64_t hamutsigra_lend(const uint8_t *data, size_t data_len,

@@ -74,7 +74,9 @@ static void expect_content(const struct card *card, size_t number, uint8_t fill)
 
     lent = hamutsigra_lend(card->data, sizeof card->data, card->spare, sizeof card->spare,
                            PAGES, LOGICAL, LOGS, number);
-    if (lent != HAMUTSIGRA_NOT_LENT)
+    if (lent == HAMUTSIGRA_NOT_LENT)
+        expect_equal("byte of a page that is not lent", fill, 255);
+    else
         expect_equal("page lent equals page read",
                      (unsigned long)memcmp(card->data + lent, page, sizeof page), 0);
 }

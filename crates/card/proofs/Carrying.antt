@@ -2,64 +2,37 @@
 use mathlib.Core.Path.{_≡_, refl, sym, ap, _∙_}
 use mathlib.Core.Bool.{Bool, true, false, not, cond}
 use mathlib.Core.List.{List}
-use Prim.Native.Nat.{ℕ, _+_, _<_, _≤_}
+use Prim.Native.Nat.{ℕ}
 use native.Mathlib.Omega.{arith}
-use lib.Dec.{ltb, eqb}
+use lib.Dec.{eqb}
 use lib.ListN.{length}
-use borrow.Author.Tests.{lt-ltb, le-ltb, ltb-false, eqb-true}
+use borrow.Author.Tests.{ltb-false, eqb-true}
 use Rattle.rules.specs.declared.shape.Shape.{Shape}
 use Rattle.rules.specs.declared.answer.Answer.{Answer}
 use Rattle.rules.specs.declared.answer.Answer.the-variants.{Refused}
-use Rattle.rules.specs.Spare.{highestNumber}
-use Rattle.rules.specs.Shape.{withinLimits, blockOf, inRange, needed}
+use Rattle.rules.specs.Shape.{withinLimits, blockOf, inRange, goodNeeded}
 use Rattle.rules.specs.Page.{Image}
 use Rattle.rules.specs.Facts.{Within, imageOf}
 use Rattle.rules.specs.WellFormed.{Blocks, blocksOf, wellFormed}
-use Rattle.rules.specs.Steps.{Case, room, fresh, full, highest, writeCase, numbersNeeded, writeList}
+use Rattle.rules.specs.Steps.{Case, room, fresh, merging, highest, writeCase, numbersNeeded, writeList}
 use Rattle.rules.specs.Replies.{goodBlocks, tooFewGood, unrecovered, outOfNumbers, unless, writeRefusal, writeReply}
 use Rattle.laws.proofs.Tests.{true-is, false-is}
 use Rattle.laws.proofs.Roles.{Records, Recovered, wellFormed-e, recovered-e}
 use Rattle.laws.proofs.Erasing.{Sound}
 use Rattle.roles.specs.declared.census.Census.{Census}
 use Rattle.roles.specs.Passes.{censusTo}
-use Rattle.card.specs.declared.budget.Budget.{Budget}
-use Rattle.card.specs.declared.plan.Plan.{Plan}
-use Rattle.card.specs.Orders.{callRefusal, cardRefusal, lateRefusal}
-use Rattle.card.specs.Runs.{started, state, Ran}
-use Rattle.card.specs.Answers.{finished}
-use Rattle.card.specs.Plans.{planFor, planOf, planned}
+use Rattle.refusals.specs.Orders.{callRefusal, cardRefusal, lateRefusal}
+use Rattle.refusals.proofs.Refusing.{Accepted, card-accepts, unless-no, unless-yes, refusal-first, refusal-next, late-accepts}
+use Rattle.steps.specs.declared.budget.Budget.{Budget}
+use Rattle.steps.specs.Runs.{started, progress, Ran}
+use Rattle.steps.specs.Answers.{finished}
+use Rattle.steps.proofs.Running.{ran-same}
+use Rattle.plans.specs.declared.plan.Plan.{Plan}
+use Rattle.plans.specs.Plans.{planFor, planOf, planned}
+use Rattle.plans.proofs.Planning.{Ready, ready}
 use Rattle.card.specs.Promises.{Written}
-use Rattle.card.proofs.Refusing.{Accepted, card-accepts, unless-no, unless-yes}
-use Rattle.card.proofs.Running.{ran-same, changed-refused, changed-done}
-use Rattle.card.proofs.Reading.{scanned-records, refusal-first, refusal-next}
-use Rattle.card.proofs.Planning.{Ready, ready}
-
--- ---- 6 and 7
-
-module _ (t : Census) (n : ℕ) where
-  late-by : (u v : Bool) → t .recovered ≡ u → ltb highestNumber (t .highest + n) ≡ v → cond (not u) 6 (cond v 7 0) ≡ lateRefusal t n
-  unfolding lateRefusal
-  late-by u v e f = sym (ap (λ (b : Bool). cond (not b) 6 (cond (ltb highestNumber (t .highest + n)) 7 0)) e
-      ∙ ap (λ (b : Bool). cond (not u) 6 (cond b 7 0)) f)
-
-  pub late-unrecovered : t .recovered ≡ false → 6 ≡ lateRefusal t n
-  late-unrecovered e = late-by false (ltb highestNumber (t .highest + n)) e refl
-
-  pub late-out : t .recovered ≡ true → highestNumber < t .highest + n → 7 ≡ lateRefusal t n
-  late-out e h = late-by true true e (lt-ltb highestNumber (t .highest + n) h)
-
-  pub late-none : t .recovered ≡ true → t .highest + n ≤ highestNumber → 0 ≡ lateRefusal t n
-  late-none e h = late-by true false e (le-ltb highestNumber (t .highest + n) h)
-
-  late-accepts : lateRefusal t n ≡ 0 → (t .recovered ≡ true) × (t .highest + n ≤ highestNumber)
-  unfolding lateRefusal
-  late-accepts e = go (t .recovered) (ltb highestNumber (t .highest + n)) refl refl e
-    where
-      go : (u v : Bool) → t .recovered ≡ u → ltb highestNumber (t .highest + n) ≡ v → _≡_ {A = ℕ} (cond (not u) 6 (cond v 7 0)) 0
-          → (t .recovered ≡ true) × (t .highest + n ≤ highestNumber)
-      go true false p q z = (p, ltb-false highestNumber (t .highest + n) q)
-      go true true p q z = absurd (omega arith)
-      go false v p q z = absurd (omega arith)
+use Rattle.card.proofs.Replying.{replied-refused, replied-done}
+use Rattle.card.proofs.Fetching.{scanned-records}
 
 -- ---- the order of the refusals
 
@@ -70,7 +43,7 @@ needed-is s c a = go (writeCase s c (blockOf s a))
     go : (k : Case) → planFor s c a k .needed ≡ numbersNeeded k
     go room = refl
     go fresh = refl
-    go (full l) = refl
+    go (merging l) = refl
 
 module _ (s : Shape) (im : Image) (c : Blocks) (size a : ℕ) where
   order : (n : ℕ) → n ≡ callRefusal s (length (im .bytes)) (length (im .spare)) (eqb size 512) a
@@ -129,7 +102,7 @@ accepted-sound s im w scanned z =
     let c : Blocks = blocksOf s im in
     let r : Records s c = scanned-records (w .limits) im refl in
     let ok = card-accepts s c (sym (z ∙ ap (cardRefusal s) scanned)) in
-    record { fits = w; wf = wellFormed-e s c r (true-is (wellFormed s c) (ok .1)); enough = ltb-false (goodBlocks s c) (needed s) (ok .0) }
+    record { fits = w; wf = wellFormed-e s c r (true-is (wellFormed s c) (ok .1)); enough = ltb-false (goodBlocks s c) (goodNeeded s) (ok .0) }
 
 accepted-recovered : (s : Shape) (im : Image) {t : Census} → Within s (length (im .bytes)) (length (im .spare))
     → t ≡ censusTo s (blocksOf s im) (s .blocks) → t .recovered ≡ true
@@ -159,15 +132,15 @@ module _ (s : Shape) (bytes spare : List ℕ) (a : ℕ) (d : List ℕ) (cut : �
       → Written s (imageOf bytes spare) a d cut (Refused f) bytes spare
   unfolding writeReply
   write-refused h q =
-      changed-refused s bytes spare (writeRefusal s (imageOf bytes spare) (blocksOf s (imageOf bytes spare)) (length d) a) cut
+      replied-refused s bytes spare (writeRefusal s (imageOf bytes spare) (blocksOf s (imageOf bytes spare)) (length d) a) cut
       (writeList s (imageOf bytes spare) (blocksOf s (imageOf bytes spare)) a d) h q
 
   pub write-done : {k : Blocks} {p : Plan} {bytes′ spare′ : List ℕ} {t₀ t : Budget} {r : Answer}
       → 0 ≡ writeRefusal s (imageOf bytes spare) (blocksOf s (imageOf bytes spare)) (length d) a → Ready s (imageOf bytes spare) k p a d
       → t₀ ≡ started cut
-      → Ran s (planned s (imageOf bytes spare) k p a d) (state (imageOf bytes spare) t₀) bytes′ spare′ t → r ≡ finished t
+      → Ran s (planned s (imageOf bytes spare) k p a d) (progress (imageOf bytes spare) t₀) bytes′ spare′ t → r ≡ finished t
       → Written s (imageOf bytes spare) a d cut r bytes′ spare′
   unfolding writeReply
   write-done z y q h f =
-      changed-done s bytes spare (writeRefusal s (imageOf bytes spare) (blocksOf s (imageOf bytes spare)) (length d) a) cut
+      replied-done s bytes spare (writeRefusal s (imageOf bytes spare) (blocksOf s (imageOf bytes spare)) (length d) a) cut
       (writeList s (imageOf bytes spare) (blocksOf s (imageOf bytes spare)) a d) (sym z) q (ran-same (y .steps-are) h) f

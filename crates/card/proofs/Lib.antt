@@ -1,11 +1,7 @@
-pub mod Refusing
-pub mod Running
-pub mod Reading
+pub mod Replying
+pub mod Fetching
 pub mod Sweeping
-pub mod Shaped
-pub mod Planning
 pub mod Carrying
-pub mod Choosing
-pub mod Copying
+pub mod Shaped
 pub mod Unique
 pub mod Useless

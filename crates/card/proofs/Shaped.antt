@@ -3,9 +3,10 @@ use mathlib.Core.Path.{_≡_, subst}
 use mathlib.Core.List.{List}
 use Prim.Native.Nat.{ℕ}
 use Rattle.rules.specs.declared.shape.Shape.{Shape}
+use Rattle.rules.specs.declared.place.Place.{Place}
 use Rattle.rules.specs.declared.answer.Answer.{Answer}
 use Rattle.rules.specs.Page.{Image}
-use Rattle.card.specs.Promises.{Formatted, PoweredUp, ReadDone, Written, Lent}
+use Rattle.card.specs.Promises.{Formatted, PoweredUp, ReadDone, Written, LentAt, Lent}
 
 module _ {s s′ : Shape} (e : s ≡ s′) (im : Image) where
   pub formatted-at : (cut : ℕ) {r : Answer} {bytes spare : List ℕ} → Formatted s im cut r bytes spare → Formatted s′ im cut r bytes spare
@@ -24,3 +25,6 @@ module _ {s s′ : Shape} (e : s ≡ s′) (im : Image) where
 
   pub lent-shape : (a : ℕ) {part : List ℕ} → Lent s im a part → Lent s′ im a part
   lent-shape a {part} h = subst (λ (u : Shape). Lent u im a part) e h
+
+  pub lentAt-shape : (a : ℕ) {r : Place} → LentAt s im a r → LentAt s′ im a r
+  lentAt-shape a {r} h = subst (λ (u : Shape). LentAt u im a r) e h

@@ -1,12 +1,11 @@
 -- Laws of format and power-up. Assumes nothing.
 use mathlib.Core.Path.{_≡_, refl, sym, ap, _∙_}
 use mathlib.Core.Bool.{Bool, true, false, not, cond}
-use mathlib.Core.List.{List, [], _∷_, _++_, map, map-append, append-assoc, append-nil}
-use Prim.Native.Nat.{ℕ, zero, suc, _+_, _*_, _≤_}
+use mathlib.Core.List.{List, [], _∷_, _++_, map, map-append}
+use Prim.Native.Nat.{ℕ, _+_}
 use native.Mathlib.Numerals.{add-one}
 use native.Mathlib.Omega.{arith}
-use lib.ListN.{length, getD, drop, set, length-append, drop-of-length-le}
-use lib.Seq.{drop-cons, set-at}
+use lib.ListN.{length}
 use Rattle.rules.specs.declared.shape.Shape.{Shape}
 use Rattle.rules.specs.declared.answer.Answer.{Answer}
 use Rattle.rules.specs.declared.answer.Answer.the-variants.{Done, Refused, Cut}
@@ -14,17 +13,18 @@ use Rattle.rules.specs.Below.{pickBelow}
 use Rattle.rules.specs.Page.{Image}
 use Rattle.rules.specs.Facts.{imageOf}
 use Rattle.rules.specs.Shape.{withinLimits}
-use Rattle.rules.specs.WellFormed.{Blocks, blocksOf, dataNumber, dataBlock, liveLog}
+use Rattle.rules.specs.WellFormed.{Blocks, blocksOf, dataNumber}
 use Rattle.rules.specs.Replies.{number, tooFewGood, formatRefusal, formatReply, powerUpRefusal, powerUpReply, tableOf, tableLeft}
 use Rattle.rules.specs.Steps.{erase, formatList, powerUpList}
 use Rattle.roles.proofs.Passes.{isObsolete-by}
-use Rattle.card.specs.declared.budget.Budget.{Budget}
-use Rattle.card.specs.Runs.{started, State, state, Ran, eraseIf}
-use Rattle.card.specs.Answers.{finished}
-use Rattle.card.specs.Promises.{Changed, Formatted, PoweredUp}
+use Rattle.refusals.proofs.Refusing.{unless-no, unless-yes}
+use Rattle.steps.specs.declared.budget.Budget.{Budget}
+use Rattle.steps.specs.Runs.{started, Progress, progress, Ran, eraseIf}
+use Rattle.steps.specs.Answers.{finished}
+use Rattle.steps.proofs.Running.{ran-then, ran-same}
+use Rattle.card.specs.Promises.{Replied, Formatted, PoweredUp}
 use Rattle.card.specs.Sweeps.{goes, goesBy, sweepTo}
-use Rattle.card.proofs.Refusing.{unless-no, unless-yes}
-use Rattle.card.proofs.Running.{ran-then, ran-same, changed-refused, changed-done}
+use Rattle.card.proofs.Replying.{replied-refused, replied-done}
 
 pub sweepTo-none : (all : Bool) (s : Shape) (c : Blocks) → [] ≡ sweepTo all s c 0
 unfolding sweepTo pickBelow
@@ -41,9 +41,9 @@ goes-by true s c j number = refl
 goes-by false s c j number = isObsolete-by s c j number refl
 
 -- one turn of the loop
-pub sweep-turn : (all : Bool) (s : Shape) (c : Blocks) (j : ℕ) (st : State) {d : ℕ} {b : Bool} {bytes spare bytes′ spare′ : List ℕ} {t r : Budget}
+pub sweep-turn : (all : Bool) (s : Shape) (c : Blocks) (j : ℕ) (st : Progress) {d : ℕ} {b : Bool} {bytes spare bytes′ spare′ : List ℕ} {t r : Budget}
     → d ≡ dataNumber s c (c j .logical) → b ≡ goesBy all s (c j) d → Ran s (sweepTo all s c j) st bytes spare t
-    → Ran s (eraseIf b j) (state (imageOf bytes spare) t) bytes′ spare′ r → Ran s (sweepTo all s c (j + 1)) st bytes′ spare′ r
+    → Ran s (eraseIf b j) (progress (imageOf bytes spare) t) bytes′ spare′ r → Ran s (sweepTo all s c (j + 1)) st bytes′ spare′ r
 sweep-turn all s c j st {b = b} number e h k =
     ran-same (ap (λ (u : Bool). sweepTo all s c j ++ eraseIf u j) (e ∙ goes-by all s c j number) ∙ sweepTo-more all s c j)
     (ran-then s (sweepTo all s c j) (eraseIf b j) st h k)
@@ -79,17 +79,17 @@ module _ (s : Shape) (bytes spare : List ℕ) (cut : ℕ) where
       → Formatted s (imageOf bytes spare) cut (Refused f) bytes spare
   unfolding formatReply
   format-refused h q =
-      changed-refused s bytes spare (formatRefusal s (imageOf bytes spare) (blocksOf s (imageOf bytes spare))) cut (formatList s (blocksOf s
+      replied-refused s bytes spare (formatRefusal s (imageOf bytes spare) (blocksOf s (imageOf bytes spare))) cut (formatList s (blocksOf s
       (imageOf bytes spare))) h q
 
   pub format-done : {k : Blocks} {bytes′ spare′ : List ℕ} {t₀ t : Budget} {r : Answer}
       → 0 ≡ formatRefusal s (imageOf bytes spare) (blocksOf s (imageOf bytes spare))
       → k ≡ blocksOf s (imageOf bytes spare) → t₀ ≡ started cut
-      → Ran s (sweepTo true s k (s .blocks)) (state (imageOf bytes spare) t₀) bytes′ spare′ t → r ≡ finished t
+      → Ran s (sweepTo true s k (s .blocks)) (progress (imageOf bytes spare) t₀) bytes′ spare′ t → r ≡ finished t
       → Formatted s (imageOf bytes spare) cut r bytes′ spare′
   unfolding formatReply
   format-done z e q h f =
-      changed-done s bytes spare (formatRefusal s (imageOf bytes spare) (blocksOf s (imageOf bytes spare))) cut (formatList s (blocksOf s
+      replied-done s bytes spare (formatRefusal s (imageOf bytes spare) (blocksOf s (imageOf bytes spare))) cut (formatList s (blocksOf s
       (imageOf bytes spare))) (sym z) q
       (ran-same (sweepTo-format s (blocksOf s (imageOf bytes spare)) e) h) f
 
@@ -120,74 +120,35 @@ module _ (s : Shape) (bytes spare old : List ℕ) (cut : ℕ) where
       → PoweredUp s (imageOf bytes spare) old cut (Refused f) bytes spare old
   unfolding powerUpReply
   powerUp-refused h q =
-      let ch = changed-refused s bytes spare (powerUpRefusal s (imageOf bytes spare) (blocksOf s (imageOf bytes spare)) (length old)) cut
+      let ch = replied-refused s bytes spare (powerUpRefusal s (imageOf bytes spare) (blocksOf s (imageOf bytes spare)) (length old)) cut
       (powerUpList s (blocksOf s (imageOf bytes spare))) h q in
-      record { changed = ch; table-left = table-kept s (imageOf bytes spare) old cut (ch .answer) h }
+      record { replied = ch; table-left = table-kept s (imageOf bytes spare) old cut (ch .answer) h }
 
   swept : {k : Blocks} {bytes′ spare′ : List ℕ} {t₀ t : Budget} {r : Answer}
       → 0 ≡ powerUpRefusal s (imageOf bytes spare) (blocksOf s (imageOf bytes spare)) (length old)
       → k ≡ blocksOf s (imageOf bytes spare) → t₀ ≡ started cut
-      → Ran s (sweepTo false s k (s .blocks)) (state (imageOf bytes spare) t₀) bytes′ spare′ t → r ≡ finished t
-      → Changed s (imageOf bytes spare) (powerUpReply s (imageOf bytes spare) (length old) cut) r bytes′ spare′
+      → Ran s (sweepTo false s k (s .blocks)) (progress (imageOf bytes spare) t₀) bytes′ spare′ t → r ≡ finished t
+      → Replied s (imageOf bytes spare) (powerUpReply s (imageOf bytes spare) (length old) cut) r bytes′ spare′
   unfolding powerUpReply
   swept z e q h f =
-      changed-done s bytes spare (powerUpRefusal s (imageOf bytes spare) (blocksOf s (imageOf bytes spare)) (length old)) cut
+      replied-done s bytes spare (powerUpRefusal s (imageOf bytes spare) (blocksOf s (imageOf bytes spare)) (length old)) cut
       (powerUpList s (blocksOf s (imageOf bytes spare))) (sym z) q (ran-same (sweepTo-powerUp s (blocksOf s (imageOf bytes spare)) e) h) f
 
   pub powerUp-cut : {k : Blocks} {bytes′ spare′ : List ℕ} {t₀ t : Budget} {r : Answer}
       → 0 ≡ powerUpRefusal s (imageOf bytes spare) (blocksOf s (imageOf bytes spare)) (length old)
       → k ≡ blocksOf s (imageOf bytes spare) → t₀ ≡ started cut
-      → Ran s (sweepTo false s k (s .blocks)) (state (imageOf bytes spare) t₀) bytes′ spare′ t → r ≡ finished t
+      → Ran s (sweepTo false s k (s .blocks)) (progress (imageOf bytes spare) t₀) bytes′ spare′ t → r ≡ finished t
       → t .short ≡ true → PoweredUp s (imageOf bytes spare) old cut r bytes′ spare′ old
   powerUp-cut {t = t} {r = r} z e q h f b =
       let ch = swept z e q h f in
       let n : number r ≡ 8 = ap number f ∙ finished-number t true b in
-      record { changed = ch; table-left = table-kept s (imageOf bytes spare) old cut (ch .answer) (λ y. omega arith) }
+      record { replied = ch; table-left = table-kept s (imageOf bytes spare) old cut (ch .answer) (λ y. omega arith) }
 
   pub powerUp-done : {k : Blocks} {bytes′ spare′ table : List ℕ} {t₀ t : Budget} {r : Answer}
       → 0 ≡ powerUpRefusal s (imageOf bytes spare) (blocksOf s (imageOf bytes spare)) (length old)
       → k ≡ blocksOf s (imageOf bytes spare) → t₀ ≡ started cut
-      → Ran s (sweepTo false s k (s .blocks)) (state (imageOf bytes spare) t₀) bytes′ spare′ t → r ≡ finished t
+      → Ran s (sweepTo false s k (s .blocks)) (progress (imageOf bytes spare) t₀) bytes′ spare′ t → r ≡ finished t
       → t .short ≡ false → table ≡ tableOf s k (s .logical) → PoweredUp s (imageOf bytes spare) old cut r bytes′ spare′ table
   powerUp-done {t = t} z e q h f b g =
       let ch = swept z e q h f in
-      record { changed = ch; table-left = table-filled s (imageOf bytes spare) old cut (ch .answer) (ap number f ∙ finished-number t false b) e g }
-
--- ---- the table
-
-tableOf-length : (s : Shape) (c : Blocks) (l : ℕ) → length (tableOf s c l) ≡ 2 * l
-unfolding tableOf
-tableOf-length s c zero = refl
-tableOf-length s c (suc l) = length-append (tableOf s c l) (dataBlock s c l ∷ liveLog s c l ∷ []) ∙ (let e = tableOf-length s c l in omega arith)
-
-pub table-none : (s : Shape) (c : Blocks) (old : List ℕ) → old ≡ tableOf s c 0 ++ drop (2 * 0) old
-unfolding tableOf
-table-none s c old = refl
-
-pub table-turn : (s : Shape) (c : Blocks) (old table : List ℕ) (l : ℕ) {x y : ℕ} → 2 * l + 2 ≤ length old → table ≡ tableOf s c l ++ drop (2 * l) old
-    → x ≡ dataBlock s c l → y ≡ liveLog s c l → set (set table (2 * l) x) (2 * l + 1) y ≡ tableOf s c (l + 1) ++ drop (2 * (l + 1)) old
-unfolding tableOf
-table-turn s c old table l {x} {y} h e f g =
-    let done : List ℕ = tableOf s c l in
-    let u : ℕ = getD old (2 * l) 0 in
-    let w : ℕ = getD old (suc (2 * l)) 0 in
-    let rest : List ℕ = drop (suc (suc (2 * l))) old in
-    let n : length done ≡ 2 * l = tableOf-length s c l in
-    let m : length (done ++ (x ∷ [])) ≡ 2 * l + 1 = length-append done (x ∷ []) ∙ (let z : length done + 1 ≡ 2 * l + 1 = omega arith in z) in
-    let start : table ≡ done ++ u ∷ w ∷ rest =
-    e ∙ ap (λ (k : List ℕ). done ++ k) (drop-cons old (2 * l) 0 (omega arith)
-    ∙ ap (λ (k : List ℕ). u ∷ k) (drop-cons old (suc (2 * l)) 0 (omega arith))) in
-    let one : set table (2 * l) x ≡ (done ++ (x ∷ [])) ++ w ∷ rest =
-    ap (λ (k : List ℕ). set k (2 * l) x) start ∙ set-at done u (w ∷ rest) x (2 * l) n ∙ sym (append-assoc done (x ∷ []) (w ∷ rest)) in
-    let two : set (set table (2 * l) x) (2 * l + 1) y ≡ (done ++ (x ∷ [])) ++ y ∷ rest =
-    ap (λ (k : List ℕ). set k (2 * l + 1) y) one ∙ set-at (done ++ (x ∷ [])) w rest y (2 * l + 1) m in
-    let end : suc (suc (2 * l)) ≡ 2 * (l + 1) = omega arith in
-    two ∙ append-assoc done (x ∷ []) (y ∷ rest) ∙ sym (append-assoc done (x ∷ y ∷ []) rest)
-    ∙ ap (λ (k : ℕ). (done ++ (k ∷ y ∷ [])) ++ rest) f ∙ ap (λ (k : ℕ). (done ++ (dataBlock s c l ∷ k ∷ [])) ++ rest) g
-    ∙ ap (λ (k : ℕ). tableOf s c k ++ rest) (sym (add-one l)) ∙ ap (λ (k : ℕ). tableOf s c (l + 1) ++ drop k old) end
-
-pub table-all : (s : Shape) (c : Blocks) (old table : List ℕ) (l : ℕ) → l ≡ s .logical → length old ≡ 2 * s .logical
-    → table ≡ tableOf s c l ++ drop (2 * l) old
-    → table ≡ tableOf s c (s .logical)
-table-all s c old table l e h f =
-    f ∙ ap (λ (k : List ℕ). tableOf s c l ++ k) (drop-of-length-le old {i = 2 * l} (omega arith)) ∙ append-nil (tableOf s c l) ∙ ap (tableOf s c) e
+      record { replied = ch; table-left = table-filled s (imageOf bytes spare) old cut (ch .answer) (ap number f ∙ finished-number t false b) e g }

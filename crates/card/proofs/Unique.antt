@@ -8,27 +8,27 @@ use Rattle.rules.specs.declared.place.Place.{Place}
 use Rattle.rules.specs.declared.answer.Answer.{Answer}
 use Rattle.rules.specs.Page.{Image}
 use Rattle.rules.specs.Replies.{Reply, lentPage}
-use Rattle.card.specs.Promises.{Changed, Formatted, PoweredUp, ReadDone, Written, Lent, LentIn}
+use Rattle.card.specs.Promises.{Replied, Formatted, PoweredUp, ReadDone, Written, LentAt, Lent}
 
 -- two that are both the definition's value are one
 one : {A : Type 0} {x y v : A} → x ≡ v → y ≡ v → x ≡ y
 one e f = e ∙ sym f
 
 module _ (s : Shape) (im : Image) where
-  changed-one : (reply : Reply) {r r′ : Answer} {bytes bytes′ spare spare′ : List ℕ} → Changed s im reply r bytes spare
-      → Changed s im reply r′ bytes′ spare′
+  replied-one : (reply : Reply) {r r′ : Answer} {bytes bytes′ spare spare′ : List ℕ} → Replied s im reply r bytes spare
+      → Replied s im reply r′ bytes′ spare′
       → (r ≡ r′) × (bytes ≡ bytes′) × (spare ≡ spare′)
-  changed-one reply h k = (one (h .answer) (k .answer), one (h .bytes-left) (k .bytes-left), one (h .spare-left) (k .spare-left))
+  replied-one reply h k = (one (h .answer) (k .answer), one (h .bytes-left) (k .bytes-left), one (h .spare-left) (k .spare-left))
 
   pub format-one : (cut : ℕ) {r r′ : Answer} {bytes bytes′ spare spare′ : List ℕ} → Formatted s im cut r bytes spare
       → Formatted s im cut r′ bytes′ spare′
       → (r ≡ r′) × (bytes ≡ bytes′) × (spare ≡ spare′)
-  format-one cut h k = changed-one _ h k
+  format-one cut h k = replied-one _ h k
 
   pub powerUp-one : (old : List ℕ) (cut : ℕ) {r r′ : Answer} {bytes bytes′ spare spare′ table table′ : List ℕ}
       → PoweredUp s im old cut r bytes spare table
       → PoweredUp s im old cut r′ bytes′ spare′ table′ → ((r ≡ r′) × (bytes ≡ bytes′) × (spare ≡ spare′)) × (table ≡ table′)
-  powerUp-one old cut h k = (changed-one _ (h .changed) (k .changed), one (h .table-left) (k .table-left))
+  powerUp-one old cut h k = (replied-one _ (h .replied) (k .replied), one (h .table-left) (k .table-left))
 
   pub read-one : (old : List ℕ) (a : ℕ) {r r′ : Answer} {page page′ : List ℕ} → ReadDone s im old a r page → ReadDone s im old a r′ page′
       → (r ≡ r′) × (page ≡ page′)
@@ -36,11 +36,10 @@ module _ (s : Shape) (im : Image) where
 
   pub write-one : (a : ℕ) (page : List ℕ) (cut : ℕ) {r r′ : Answer} {bytes bytes′ spare spare′ : List ℕ} → Written s im a page cut r bytes spare
       → Written s im a page cut r′ bytes′ spare′ → (r ≡ r′) × (bytes ≡ bytes′) × (spare ≡ spare′)
-  write-one a page cut h k = changed-one _ h k
+  write-one a page cut h k = replied-one _ h k
 
   pub lend-one : (a : ℕ) {part part′ : List ℕ} → Lent s im a part → Lent s im a part′ → part ≡ part′
   lend-one a h k = one (h .bytes-lent) (k .bytes-lent)
 
-  pub lend-at-one : (a : ℕ) {place place′ : Place} → (place ≡ lentPage s im a) × LentIn place (length (im .bytes))
-      → (place′ ≡ lentPage s im a) × LentIn place′ (length (im .bytes)) → place ≡ place′
-  lend-at-one a h k = one (h .0) (k .0)
+  pub lend-at-one : (a : ℕ) {place place′ : Place} → LentAt s im a place → LentAt s im a place′ → place ≡ place′
+  lend-at-one a h k = one (h .place) (k .place)

@@ -180,7 +180,7 @@ module _ (y : Layer) where
 
   pub refuses-powerUp : ((s : Shape) (im : Image) (old : List ℕ) (cut : ℕ) → (n : ℕ) × (y .powerUp s im old cut .answer ≡ Refused n)) → PowersUp y → ⊥
   refuses-powerUp never meets =
-      refused-done (never small blank (0 ∷ 0 ∷ []) 9 .1) (meets 2 1 1 9 blank (0 ∷ 0 ∷ []) .changed .answer ∙ computed .powerUp-done)
+      refused-done (never small blank (0 ∷ 0 ∷ []) 9 .1) (meets 2 1 1 9 blank (0 ∷ 0 ∷ []) .replied .answer ∙ computed .powerUp-done)
 
   pub refuses-read : ((s : Shape) (im : Image) (old : List ℕ) (a : ℕ) → (n : ℕ) × (y .read s im old a .answer ≡ Refused n)) → Reads y → ⊥
   refuses-read never meets = refused-done (never small blank zeros 0 .1) (meets 2 1 1 0 blank zeros .answer ∙ computed .read-done)
@@ -218,7 +218,7 @@ module _ (y : Layer) where
   idle-powerUp idle meets =
       let e : _≡_ {A = ℕ} 15 255 =
       sym (computed .half-kind)
-      ∙ ap (λ (xs : List ℕ). byte xs 4) (sym (idle small halfCopied (0 ∷ 0 ∷ []) 9) ∙ meets 2 1 1 9 halfCopied (0 ∷ 0 ∷ []) .changed .spare-left)
+      ∙ ap (λ (xs : List ℕ). byte xs 4) (sym (idle small halfCopied (0 ∷ 0 ∷ []) 9) ∙ meets 2 1 1 9 halfCopied (0 ∷ 0 ∷ []) .replied .spare-left)
       ∙ computed .powerUp-kind in
       omega arith
 
@@ -252,7 +252,7 @@ module _ (y : Layer) where
   pub made-up-powerUp : (P L K cut : ℕ) (im : Image) (old : List ℕ) → let s : Shape = shapeFor P L K im in
       erasesOf (y .powerUp s im old cut .answer) ≢ erases (powerUpReply s im (length old) cut .steps) → PowersUp y → ⊥
   unfolding powerUpReply
-  made-up-powerUp P L K cut im old differs meets = differs (ap erasesOf (meets P L K cut im old .changed .answer)
+  made-up-powerUp P L K cut im old differs meets = differs (ap erasesOf (meets P L K cut im old .replied .answer)
       ∙ let s : Shape = shapeFor P L K im in counted (powerUpRefusal s im (blocksOf s im) (length old)) cut (powerUpList s (blocksOf s im)))
 
   pub made-up-write : (P L K a cut : ℕ) (im : Image) (page : List ℕ) → let s : Shape = shapeFor P L K im in

@@ -1,6 +1,2 @@
-pub mod Orders
-pub mod Runs
-pub mod Answers
-pub mod Sweeps
-pub mod Plans
 pub mod Promises
+pub mod Sweeps

@@ -1,20 +1,12 @@
 // The card: format, power-up, read, write and page lending, over a lent image. Each takes any slices and any numbers.
-ghost use mathlib.Core.Path.{_≡_};
-ghost use lib.ListN.{length};
 ghost use Rattle.rules.specs.Facts.{imageOf};
-ghost use Rattle.rules.specs.Replies.{lentPage};
-ghost use Rattle.card.specs.Promises.{given, Formatted, PoweredUp, ReadDone, Written, Lent, LentIn};
+ghost use Rattle.card.specs.Promises.{given, Formatted, PoweredUp, ReadDone, Written, LentAt, Lent};
 use rules::answer::Answer;
 use rules::place::Place;
 use rules::shape::Shape;
 
-mod budget;
-mod content;
-mod merge;
-mod plan;
-mod refusals;
+mod reading;
 mod sweep;
-mod table;
 mod writing;
 
 // Erases each good block that is not free.
@@ -61,7 +53,7 @@ pub fn read(
     ensures { λ r. ⌜ given pages logical logs (imageOf (now (bytes .entry)) (now (spare .entry))) (λ s im. ReadDone s im (now (page .entry)) number r (now (page .exit))) ⌝ }
 {
     let s = Shape::of(pages, logical, logs, bytes.len());
-    content::read(bytes, spare, page, s, number)
+    reading::read(bytes, spare, page, s, number)
 }
 
 // Writes the page buffer to logical page `number`.
@@ -81,7 +73,7 @@ pub fn write(
     writing::write(bytes, spare, page, s, number, cut)
 }
 
-// The flash page that holds logical page `number`, where read would give its bytes from one.
+// The flash page that `lend` lends, or Nowhere.
 pub fn lend_at(
     bytes: &[u8],
     spare: &[u8],
@@ -90,10 +82,10 @@ pub fn lend_at(
     logs: usize,
     number: usize,
 ) -> Place
-    ensures { λ r. ⌜ given pages logical logs (imageOf (now (bytes .entry)) (now (spare .entry))) (λ s im. (r ≡ lentPage s im number) × LentIn r (length (im .bytes))) ⌝ }
+    ensures { λ r. ⌜ given pages logical logs (imageOf (now (bytes .entry)) (now (spare .entry))) (λ s im. LentAt s im number r) ⌝ }
 {
     let s = Shape::of(pages, logical, logs, bytes.len());
-    content::place(bytes, spare, s, number)
+    reading::place(bytes, spare, s, number)
 }
 
 // Lends back that page's own 512 bytes, or an empty part.
@@ -108,5 +100,5 @@ pub fn lend<'a>(
     ensures { λ r. ⌜ given pages logical logs (imageOf (now (bytes .entry)) (now (spare .entry))) (λ s im. Lent s im number (now r)) ⌝ }
 {
     let s = Shape::of(pages, logical, logs, bytes.len());
-    content::lend(bytes, spare, s, number)
+    reading::lend(bytes, spare, s, number)
 }

@@ -4,21 +4,20 @@ ghost use lib.ListN.{length};
 ghost use Rattle.rules.specs.Facts.{Within, imageOf};
 ghost use Rattle.rules.specs.WellFormed.{blocksIn};
 ghost use Rattle.roles.specs.Passes.{Numbers};
-ghost use Rattle.card.specs.Runs.{Sane, Does};
+ghost use Rattle.steps.specs.Runs.{Sane, Does};
 ghost use Rattle.card.specs.Sweeps.{goesBy, sweepTo};
 ghost use Rattle.card.specs.Promises.{Formatted, PoweredUp};
-use super::budget;
-use super::budget::Budget;
-use super::refusals;
-use super::table;
 use blocks::scan;
 use roles::census;
 use roles::numbers;
 use roles::role;
+use roles::table;
 use rules::answer::Answer;
 use rules::block::Block;
 use rules::shape::Shape;
 use rules::test;
+use steps::budget;
+use steps::budget::Budget;
 
 // Whether record x goes: all good ones that are not free, or the obsolete ones.
 fn goes(all: bool, s: Shape, x: Block, d: u32) -> bool

@@ -1,15 +1,14 @@
-// Write.
+// Write: the refusals, the plan, its steps.
 ghost use Rattle.rules.specs.Facts.{imageOf};
 ghost use Rattle.card.specs.Promises.{Written};
-use super::budget::Budget;
-use super::merge;
-use super::plan;
-use super::refusals;
 use blocks::scan;
+use plans::carry;
+use plans::plan;
 use roles::census;
 use roles::numbers;
 use rules::answer::Answer;
 use rules::shape::Shape;
+use steps::budget::Budget;
 
 // Write, of a card of shape s.
 pub fn write(
@@ -38,5 +37,5 @@ pub fn write(
     if third != 0 {
         return Answer::Refused(third);
     }
-    merge::carry_out(bytes, spare, page, s, list, ds, p, a, Budget::new(cut)).answer()
+    carry::carry_out(bytes, spare, page, s, list, ds, p, a, Budget::new(cut)).answer()
 }

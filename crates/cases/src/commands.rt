@@ -1,4 +1,7 @@
 // The commands on a card of P 4 and L 2, each with its line.
+ghost use mathlib.Core.Path.{_≡_};
+ghost use Prim.Native.Nat.{_≤_};
+ghost use lib.ListN.{length};
 use super::lines;
 
 const PAGES: usize = 4;
@@ -8,71 +11,69 @@ const LOGICAL: usize = 2;
 // A cut number that no list reaches.
 const NO_CUT: usize = 18446744073709551615;
 
-pub fn format(case: usize, bytes: &mut [u8], spare: &mut [u8]) {
-    let a = card::format(bytes, spare, PAGES, LOGICAL, 1, NO_CUT);
-    lines::number(b"case ", case);
-    lines::text(b": format");
-    lines::answer(a, bytes, spare);
-}
-
-pub fn power_up(case: usize, bytes: &mut [u8], spare: &mut [u8]) {
+fn power_up(bytes: &mut [u8], spare: &mut [u8], logs: usize) {
     let mut table = [0u16; 4];
-    let a = card::power_up(bytes, spare, &mut table, PAGES, LOGICAL, 1, NO_CUT);
-    lines::number(b"case ", case);
-    lines::entry(b": power-up, table ", table[0]);
-    lines::entry(b" ", table[1]);
-    lines::entry(b" ", table[2]);
-    lines::entry(b" ", table[3]);
-    lines::answer(a, bytes, spare);
+    lines::answer(card::power_up(bytes, spare, &mut table, PAGES, LOGICAL, logs, NO_CUT));
+    lines::table(table);
 }
 
-// Writes a page filled with one byte.
-pub fn write(case: usize, bytes: &mut [u8], spare: &mut [u8], logs: usize, page: usize, fill: u8) {
-    let a = card::write(
-        bytes,
-        spare,
-        &[fill; 512],
-        PAGES,
-        LOGICAL,
-        logs,
-        page,
-        NO_CUT,
-    );
-    lines::number(b"case ", case);
-    lines::number(b": write ", page);
-    lines::answer(a, bytes, spare);
+// How long a read's buffer is: one byte less for a dash.
+fn size(letter: u8) -> usize
+    ensures { λ r. ⌜ r ≤ 512 ⌝ }
+{
+    if letter == b'-' { 511 } else { 512 }
 }
 
-pub fn write_cut(
-    case: usize,
+// Reads into a buffer of 0s.
+fn read(bytes: &[u8], spare: &[u8], logs: usize, number: usize, letter: u8) {
+    let mut room = [0u8; 512];
+    let end = size(letter);
+    let page: &mut [u8] = &mut room[0..end];
+    lines::answer(card::read(bytes, spare, page, PAGES, LOGICAL, logs, number));
+    lines::sum(page);
+}
+
+fn command(
     bytes: &mut [u8],
     spare: &mut [u8],
-    page: usize,
-    fill: u8,
+    logs: usize,
+    verb: u8,
+    number: usize,
+    letter: u8,
     cut: usize,
 ) {
-    let a = card::write(bytes, spare, &[fill; 512], PAGES, LOGICAL, 1, page, cut);
-    lines::number(b"case ", case);
-    lines::number(b": write ", page);
-    lines::number(b" cut at ", cut);
-    lines::answer(a, bytes, spare);
+    match verb {
+        b'f' => lines::answer(card::format(bytes, spare, PAGES, LOGICAL, logs, NO_CUT)),
+        b'p' => power_up(bytes, spare, logs),
+        b'r' => read(bytes, spare, logs, number, letter),
+        _ => lines::answer(card::write(
+            bytes,
+            spare,
+            &[letter; 512],
+            PAGES,
+            LOGICAL,
+            logs,
+            number,
+            cut,
+        )),
+    }
 }
 
-// Reads into this buffer, all 0.
-fn read_into(case: usize, bytes: &[u8], spare: &[u8], page: usize, buffer: &mut [u8]) {
-    let a = card::read(bytes, spare, buffer, PAGES, LOGICAL, 1, page);
-    lines::number(b"case ", case);
-    lines::number(b": read ", page);
-    lines::number(b" into ", buffer.len());
-    lines::number(b": answer ", a.number() as usize);
-    lines::sum(b", page ", buffer, b"");
+// The number that a digit stands for. A blank stands for no cut.
+fn digit(letter: u8) -> usize {
+    if letter < b'0' {
+        return NO_CUT;
+    }
+    (letter - b'0') as usize
 }
 
-pub fn read(case: usize, bytes: &[u8], spare: &[u8], page: usize) {
-    read_into(case, bytes, spare, page, &mut [0u8; 512]);
-}
-
-// With a buffer of one byte less.
-pub fn read_short(case: usize, bytes: &[u8], spare: &[u8], page: usize) {
-    read_into(case, bytes, spare, page, &mut [0u8; 511]);
+// Runs the command of one word, and writes its line.
+pub fn run(bytes: &mut [u8], spare: &mut [u8], logs: usize, word: &[u8])
+    requires { ⌜ length (now word) ≡ 6 ⌝ }
+{
+    lines::text(word);
+    let number = digit(word[3]);
+    let cut = digit(word[5]);
+    command(bytes, spare, logs, word[2], number, word[4], cut);
+    lines::image(bytes, spare);
 }

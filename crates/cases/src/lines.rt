@@ -1,65 +1,53 @@
 // What is written: text, numbers, and sums of bytes.
 use libc::STDOUT_FILENO;
 use rules::answer::Answer;
-use std::num::wrapping_add_u64;
+use std::num::wrapping_add_usize;
 
-pub fn text(words: &[u8]) {
-    io::write_all(STDOUT_FILENO, words);
+pub fn text(letters: &[u8]) {
+    io::write_all(STDOUT_FILENO, letters);
 }
 
-// A number after some text.
-pub fn number(words: &[u8], n: usize) {
-    text(words);
+fn number(n: usize) {
+    text(b" ");
     io::print_decimal(STDOUT_FILENO, n as u64);
 }
 
-// An entry of power-up's table after some text.
-pub fn entry(words: &[u8], block: u16) {
-    number(words, block as usize);
+// The number of an answer, its programs and its erases.
+pub fn answer(a: Answer) {
+    number(a.number() as usize);
+    number(a.programs());
+    number(a.erases());
 }
 
-// Of some bytes: their sum, and the sum of each byte times its place, from 1 on.
-struct Sums {
-    plain: u64,
-    placed: u64,
+// Power-up's table.
+pub fn table(t: [u16; 4]) {
+    number(t[0] as usize);
+    number(t[1] as usize);
+    number(t[2] as usize);
+    number(t[3] as usize);
 }
 
-fn wide(x: u8) -> u64 {
-    x as u64
+fn wide(x: u8) -> usize {
+    x as usize
 }
 
-// The sums with these bytes in front. One byte in front moves all others a place on, so that `placed` grows by the sum of all.
-// No sum here wraps: there are at most 137,280 bytes.
-fn in_front(bytes: &[u8], rest: Sums) -> Sums {
-    let mut plain = rest.plain;
-    let mut placed = rest.placed;
+// The sum of each byte times its place, from 1 on. A byte in front moves the others a place on: `placed` grows by the sum of all.
+// No sum here wraps: there are at most 133,120 bytes.
+pub fn sum(bytes: &[u8]) {
+    let mut all = 0;
+    let mut placed = 0;
     let mut i = bytes.len();
     while i > 0 {
         i -= 1;
-        plain = wrapping_add_u64(plain, wide(bytes[i]));
-        placed = wrapping_add_u64(placed, plain);
+        all = wrapping_add_usize(all, wide(bytes[i]));
+        placed = wrapping_add_usize(placed, all);
     }
-    Sums { plain, placed }
+    number(placed);
 }
 
-// The end of a line: of one part and then another, the sum of each byte times its place.
-pub fn sum(words: &[u8], first: &[u8], second: &[u8]) {
-    let nothing = Sums {
-        plain: 0,
-        placed: 0,
-    };
-    text(words);
-    io::print_decimal(
-        STDOUT_FILENO,
-        in_front(first, in_front(second, nothing)).placed,
-    );
+// The end of a line: the sums of the data bytes and of the spare bytes.
+pub fn image(bytes: &[u8], spare: &[u8]) {
+    sum(bytes);
+    sum(spare);
     text(b"\n");
-}
-
-// The end of a line: the answer with its programs and erases, and the sum of the image.
-pub fn answer(a: Answer, bytes: &[u8], spare: &[u8]) {
-    number(b": answer ", a.number() as usize);
-    number(b" ", a.programs());
-    number(b" ", a.erases());
-    sum(b", image ", bytes, spare);
 }

@@ -9,13 +9,13 @@ use lib.ListN.{length, take, length-append, length-map, length-take}
 use Rattle.rules.specs.declared.shape.Shape.{Shape}
 use Rattle.rules.specs.declared.answer.Answer.{Answer}
 use Rattle.rules.specs.declared.answer.Answer.the-variants.{Done, Refused, Cut}
-use Rattle.rules.specs.Below.{isNone, found, pickBelow}
+use Rattle.rules.specs.Below.{isNone, ifAny, pickBelow}
 use Rattle.rules.specs.Shape.{withinLimits, blockOf, inRange}
 use Rattle.rules.specs.Page.{Image}
 use Rattle.rules.specs.Facts.{Limits}
 use Rattle.rules.specs.WellFormed.{Blocks, blocksOf, blockAt, isGood, isFree, isComplete, isObsolete, dataBlock, liveLog, wellFormed}
 use Rattle.rules.specs.Steps.{Step, program, erase, stepDone, stepsDone, programs, erases, formatList, powerUpList, copies, mergeList}
-use Rattle.rules.specs.Steps.{Case, room, fresh, full, writeCase, mergeFirst, logBlock, ownStep, eraseAfter, ownList, writeList}
+use Rattle.rules.specs.Steps.{Case, room, fresh, merging, writeCase, mergeFirst, logBlock, ownStep, eraseAfter, ownList, writeList}
 use Rattle.rules.specs.Replies.{number, programsOf, erasesOf, outsideLimits, tooFewGood, unrecovered, outOfNumbers}
 use Rattle.rules.specs.Replies.{formatRefusal, powerUpRefusal, readRefusal, writeRefusal, carriedOut, refusedBy, unless}
 use Rattle.rules.specs.Replies.{formatReply, powerUpReply, readReply, writeReply}
@@ -58,7 +58,7 @@ pickBelow-length (suc n) p =
 erasing-length : (n : ℕ) (p : ℕ → Bool) → length (map erase (pickBelow n p)) ≤ n
 erasing-length n p = omega (arith, length-map (pickBelow n p) erase, pickBelow-length n p)
 
-found-length : (b : ℕ) → AtMostOne (found b)
+found-length : (b : ℕ) → AtMostOne (ifAny b)
 found-length b = cond-both AtMostOne (isNone b) [] (b ∷ []) (λ t. omega arith) (λ t. omega arith)
 
 module _ (s : Shape) where
@@ -77,13 +77,13 @@ module _ (s : Shape) where
   mergeList-length : (im : Image) (c : Blocks) (l : ℕ) → length (mergeList s im c l) ≤ s .pages + 2
   unfolding mergeList
   mergeList-length im c l =
-      let ends : List ℕ = found (liveLog s c l) ++ found (dataBlock s c l) in
+      let ends : List ℕ = ifAny (liveLog s c l) ++ ifAny (dataBlock s c l) in
       omega (
         arith,
         length-append (copies s im c l) (map erase ends),
         copies-length im c l,
         length-map ends erase,
-        length-append (found (liveLog s c l)) (found (dataBlock s c l)),
+        length-append (ifAny (liveLog s c l)) (ifAny (dataBlock s c l)),
         found-length (liveLog s c l),
         found-length (dataBlock s c l),
       )
@@ -92,7 +92,7 @@ module _ (s : Shape) where
   unfolding ownList eraseAfter
   ownList-length im c k a d =
       let complete : Bool = isComplete s (blockAt s (stepDone s (ownStep s c k a d) im) (logBlock s c k (blockOf s a))) in
-      let former : List ℕ = found (dataBlock s c (blockOf s a)) in
+      let former : List ℕ = ifAny (dataBlock s c (blockOf s a)) in
       let after : AtMostOne (eraseAfter s im c k a d) =
       cond-both AtMostOne complete former [] (λ t. found-length (dataBlock s c (blockOf s a))) (λ t. omega arith) in
       omega (arith, length-map (eraseAfter s im c k a d) erase)
@@ -100,7 +100,7 @@ module _ (s : Shape) where
   mergeFirst-length : (im : Image) (c : Blocks) (k : Case) → length (mergeFirst s im c k) ≤ s .pages + 2
   mergeFirst-length im c room = omega arith
   mergeFirst-length im c fresh = omega arith
-  mergeFirst-length im c (full l) = mergeList-length im c l
+  mergeFirst-length im c (merging l) = mergeList-length im c l
 
   writeList-length : (im : Image) (c : Blocks) (a : ℕ) (d : List ℕ) → length (writeList s im c a d) ≤ s .pages + 4
   unfolding writeList

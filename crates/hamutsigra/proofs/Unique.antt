@@ -5,10 +5,9 @@ use Prim.Native.Nat.{ℕ}
 use Rattle.rules.specs.declared.shape.Shape.{Shape}
 use Rattle.rules.specs.declared.answer.Answer.{Answer}
 use Rattle.rules.specs.Page.{Image}
-use Rattle.rules.specs.Replies.{lentPage}
 use Rattle.card.specs.Promises.{Formatted, PoweredUp, ReadDone, Written}
 use Rattle.card.proofs.Unique as card
-use Rattle.hamutsigra.specs.Results.{packed, Result, lentByte}
+use Rattle.hamutsigra.specs.Results.{packed, Result, lentByte, LentFrom}
 
 -- one answer is one number
 result-one : {A B : Answer → Type 0} {r r′ : ℕ} (x : Result A r) (y : Result B r′) → x .answer ≡ y .answer → r ≡ r′
@@ -34,5 +33,5 @@ module _ (s : Shape) (im : Image) {r r′ : ℕ} where
       → Result (λ a. ReadDone s im old n a page′) r′ → (r ≡ r′) × (page ≡ page′)
   read-one old n x y = let e = card.read-one s im old n (x .kept) (y .kept) in (result-one x y (e .0), e .1)
 
-  pub lend-one : (n : ℕ) → r ≡ lentByte (lentPage s im n) → r′ ≡ lentByte (lentPage s im n) → r ≡ r′
-  lend-one n x y = x ∙ sym y
+  pub lend-one : (n : ℕ) → LentFrom s im n r → LentFrom s im n r′ → r ≡ r′
+  lend-one n x y = x .byte ∙ ap lentByte (card.lend-at-one s im n (x .lent) (y .lent)) ∙ sym (y .byte)

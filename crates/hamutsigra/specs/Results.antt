@@ -1,10 +1,13 @@
 -- What C is given: an answer as one number of 64 bits, and a lent page by the byte where it starts. Assumes nothing.
 use mathlib.Core.Path.{_≡_}
 use Prim.Native.Nat.{ℕ, _+_, _*_, _<_}
+use Rattle.rules.specs.declared.shape.Shape.{Shape}
 use Rattle.rules.specs.declared.place.Place.{Place}
 use Rattle.rules.specs.declared.place.Place.the-variants.{At, Nowhere}
 use Rattle.rules.specs.declared.answer.Answer.{Answer}
+use Rattle.rules.specs.Page.{Image}
 use Rattle.rules.specs.Replies.{number, programsOf, erasesOf}
+use Rattle.card.specs.Promises.{LentAt}
 
 -- the answer's number in bits 0 to 7, its programs in bits 8 to 31, its erases in bits 32 to 63
 abbrev pub packed : Answer → ℕ
@@ -26,3 +29,9 @@ pub record Result (promise : Answer → Type 0) (r : ℕ) : Type 0 where
 abbrev pub lentByte : Place → ℕ
 lentByte (At p) = p * 512
 lentByte Nowhere = 18446744073709551615
+
+-- r is that byte for the page that the card lends, and its 512 bytes are in the data image
+pub record LentFrom (s : Shape) (im : Image) (a r : ℕ) : Type 0 where
+  pub place : Place
+  pub lent : LentAt s im a place
+  pub byte : r ≡ lentByte place

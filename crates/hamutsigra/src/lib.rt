@@ -1,9 +1,8 @@
 // The commands for C and C++, as include/hamutsigra.h declares them: each slice is a pointer and a length there.
 ghost use mathlib.Core.Path.{_≡_};
 ghost use Rattle.rules.specs.Facts.{imageOf};
-ghost use Rattle.rules.specs.Replies.{lentPage};
 ghost use Rattle.card.specs.Promises.{given, Formatted, PoweredUp, ReadDone, Written};
-ghost use Rattle.hamutsigra.specs.Results.{packed, InBits, Result, lentByte};
+ghost use Rattle.hamutsigra.specs.Results.{packed, InBits, Result, LentFrom};
 use rules::answer::Answer;
 use rules::place::Place;
 
@@ -89,7 +88,7 @@ pub extern "C" fn hamutsigra_lend(
     logs: usize,
     number: usize,
 ) -> u64
-    ensures { λ r. ⌜ given pages logical logs (imageOf (now (bytes .entry)) (now (spare .entry))) (λ s im. r ≡ lentByte (lentPage s im number)) ⌝ }
+    ensures { λ r. ⌜ given pages logical logs (imageOf (now (bytes .entry)) (now (spare .entry))) (λ s im. LentFrom s im number r) ⌝ }
 {
     let lent = card::lend_at(bytes, spare, pages, logical, logs, number);
     match lent {

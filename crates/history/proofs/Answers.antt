@@ -9,8 +9,8 @@ use lib.ListN.{length, take}
 use lib.Dec.{T, ltb, eqb, eqb→eq, T-not, not-T, lt→ltb, nltb→le}
 use Rattle.rules.specs.declared.shape.Shape.{Shape}
 use Rattle.rules.specs.declared.answer.Answer.the-variants.{Done, Cut}
-use Rattle.rules.specs.Spare.{highestNumber}
-use Rattle.rules.specs.Shape.{needed, blockOf, inRange, withinLimits}
+use Rattle.rules.specs.Spare.{numberLimit}
+use Rattle.rules.specs.Shape.{goodNeeded, blockOf, inRange, withinLimits}
 use Rattle.rules.specs.Page.{Image}
 use Rattle.rules.specs.WellFormed.{Blocks, blocksOf, wellFormed}
 use Rattle.rules.specs.Steps.{Step, programs, erases, highest, writeCase, numbersNeeded}
@@ -43,7 +43,7 @@ module _ (s : Shape) (im : Image) where
       record {
         fits = w;
         wf = wellFormed-e s c (blocksOf-records s im (omega (arith, w .limits .pages-low)) (w .limits .blocks-high)) t;
-        enough = nltb→le (goodBlocks s c) (needed s) (not-T (tooFewGood s c) g);
+        enough = nltb→le (goodBlocks s c) (goodNeeded s) (not-T (tooFewGood s c) g);
       }
 
   module _ (w : Sound s im) where
@@ -52,7 +52,7 @@ module _ (s : Shape) (im : Image) where
         T-not (withinLimits s (length (im .bytes)) (length (im .spare))) t (within-withinLimits s (length (im .bytes)) (length (im .spare)) (w .fits))
 
     pub sound-4 : T (tooFewGood s c) → ⊥
-    sound-4 = nlt→ltb (goodBlocks s c) (needed s) (w .enough)
+    sound-4 = nlt→ltb (goodBlocks s c) (goodNeeded s) (w .enough)
 
     pub sound-5 : T (wellFormed s c)
     sound-5 = wellFormed-i s c (w .wf .records) (w .wf)
@@ -73,7 +73,7 @@ pub record WriteTaken (s : Shape) (im : Image) (size a : ℕ) : Type 0 where
   pub long : size ≡ 512
   pub inside : T (inRange s a)
   pub clean : Recovered s (blocksOf s im)
-  pub fit : highest s (blocksOf s im) + numbersNeeded (writeCase s (blocksOf s im) (blockOf s a)) ≤ highestNumber
+  pub fit : highest s (blocksOf s im) + numbersNeeded (writeCase s (blocksOf s im) (blockOf s a)) ≤ numberLimit
 
 pub write-taken : (s : Shape) (im : Image) (size a : ℕ) → writeRefusal s im (blocksOf s im) size a ≡ 0 → WriteTaken s im size a
 unfolding writeRefusal
@@ -91,7 +91,7 @@ write-taken s im size a e =
       long = eqb→eq size 512 (passes (eqb size 512) (r₂ .0));
       inside = passes (inRange s a) (r₃ .0);
       clean = recovered-e s c′ (w .wf .records) (r₆ .0);
-      fit = nltb→le highestNumber (highest s c′ + numbersNeeded (writeCase s c′ (blockOf s a))) (not-T (outOfNumbers s c′ (blockOf s a)) (r₇ .0));
+      fit = nltb→le numberLimit (highest s c′ + numbersNeeded (writeCase s c′ (blockOf s a))) (not-T (outOfNumbers s c′ (blockOf s a)) (r₇ .0));
     }
   where
     c′ : Blocks

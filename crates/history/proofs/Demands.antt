@@ -10,26 +10,28 @@ use lib.ListN.{length, take}
 use lib.Seq.{take-all}
 use lib.Dec.{T, eqb, T-not}
 use Rattle.rules.specs.declared.shape.Shape.{Shape}
+use Rattle.rules.specs.declared.place.Place.{Place}
+use Rattle.rules.specs.declared.place.Place.the-variants.{At, Nowhere}
 use Rattle.rules.specs.Shape.{shapeOf, blockOf, inRange}
 use Rattle.rules.specs.Page.{Image}
-use Rattle.rules.specs.WellFormed.{blocksOf, wellFormed}
-use Rattle.rules.specs.Content.{content}
+use Rattle.rules.specs.WellFormed.{Blocks, isBad, blocksOf, wellFormed}
+use Rattle.rules.specs.Content.{holder, bytesAt, content}
 use Rattle.rules.specs.Steps.{Step, erases, stepsDone, powerUpList, writeList}
-use Rattle.rules.specs.Replies.{number, shapeFor, imageLeft, carriedOut, refusedBy, unless, readRefusal, powerUpRefusal, writeRefusal, readReply, powerUpReply, writeReply, pageLeft}
+use Rattle.rules.specs.Replies.{number, shapeFor, imageLeft, carriedOut, refusedBy, unless, readRefusal, powerUpRefusal, writeRefusal, readReply, powerUpReply, writeReply, tableOf, tableLeft, pageLeft, lentPage, lentBytes}
 use Rattle.laws.proofs.Tests.{chain-each, eq→eqb}
 use Rattle.laws.proofs.Roles.{Recovered, taken-free}
-use Rattle.history.specs.History.{Command, read, write, powerUp, replyTo, Event, History, format, fresh, end, shape, events, pageAfter, lastFrom, lastWrite, counted, wasCut, howMany, erasesIn, FallIn, stepsIn, neverTwice, FindErased}
-use Rattle.history.specs.Demands.{ReadsTheLastWrite, OneMoreCommand, OnAnyImage, NeverProgrammedTwice, StaysWellFormed, AtMostTwiceTheWrites, FewLogicalBlocks, ShortLists, RecoveredCard, WriteIsTaken, PowerUpRecovers, WriteLeavesRecovered, ThereIsAFreeBlock}
+use Rattle.history.specs.History.{Command, read, write, powerUp, replyTo, Event, History, format, formattedImage, end, shape, events, pageAfter, lastFrom, lastWrite, counted, wasCut, howMany, erasesIn, FallIn, stepsIn, neverTwice, FindErased, leftAlone}
+use Rattle.history.specs.Demands.{ReadsTheLastWrite, OneMoreCommand, OnAnyImage, LendsWhatIsRead, NeverProgrammedTwice, BadBlocksStay, StaysWellFormed, AtMostTwiceTheWrites, FewLogicalBlocks, ShortLists, RecoveredCard, WriteIsTaken, PowerUpRecovers, TableOfTheImageLeft, WriteLeavesRecovered, ThereIsAFreeBlock}
 use Rattle.laws.proofs.Along.{AllAllowed, allowed-append}
-use Rattle.laws.proofs.Erasing.{Sound, contentOf}
+use Rattle.laws.proofs.Erasing.{Sound, contentOf, SamePlaces}
 use Rattle.history.proofs.Cost.{logPages-none}
 use Rattle.history.proofs.Plan.{plan-end, plan-erases}
 use Rattle.history.proofs.Prepare.{none-in, write-cases, pre-goal}
 use Rattle.history.proofs.Write.{theCase, preImage, write-is, write-programs}
 use Rattle.history.proofs.Answers.{sound-5, card-of, of-card, WriteTaken, write-taken, read-taken, powerUp-taken, powerUp-refusal, read-refusal, write-refusal, done-number}
-use Rattle.history.proofs.Outcome.{powerUp-end, taken-plan, outcome}
+use Rattle.history.proofs.Outcome.{powerUp-cut, powerUp-end, taken-plan, outcome}
 use Rattle.history.proofs.Format.{Formatted, format-done}
-use Rattle.history.proofs.Programs.{find-erased, never-twice}
+use Rattle.history.proofs.Programs.{find-erased, never-twice, bad-alone}
 use Rattle.history.proofs.Histories.{after, eventsOf, one-shape, sound-after, holds-after, allowed-after, wear, wear-few}
 
 -- ---- a history, for the one shape that its commands find
@@ -41,17 +43,17 @@ module _ (h : History) where
   start : Formatted s (h .given) (format h)
   start = format-done s (h .given) (h .cut) (h .formatted)
 
-  shape-fresh : shapeFor (h .pages) (h .logical) (h .logs) (fresh h) ≡ s
-  shape-fresh = ap (shapeOf (h .pages) (h .logical) (h .logs)) (start .sound .fits .bytes-long ∙ sym (start .fits .bytes-long))
+  shape-formatted : shapeFor (h .pages) (h .logical) (h .logs) (formattedImage h) ≡ s
+  shape-formatted = ap (shapeOf (h .pages) (h .logical) (h .logs)) (start .sound .fits .bytes-long ∙ sym (start .fits .bytes-long))
 
   abbrev es : List Event
-  es = eventsOf s (fresh h) (h .commands)
+  es = eventsOf s (formattedImage h) (h .commands)
 
   abbrev im : Image
-  im = after s (fresh h) (h .commands)
+  im = after s (formattedImage h) (h .commands)
 
   known : (events h ≡ es) × (end h ≡ im) × (shapeFor (h .pages) (h .logical) (h .logs) im ≡ s)
-  known = one-shape (h .pages) (h .logical) (h .logs) s (fresh h) (h .commands) shape-fresh (start .sound)
+  known = one-shape (h .pages) (h .logical) (h .logs) s (formattedImage h) (h .commands) shape-formatted (start .sound)
 
   -- what holds of that shape holds of the history
   by-shape : (Q : Shape → Image → List Event → Type 0) → Q s im es → Q (shape h) (end h) (events h)
@@ -59,10 +61,16 @@ module _ (h : History) where
       subst₃ Q (sym (ap (shapeFor (h .pages) (h .logical) (h .logs)) (known .1) ∙ known .2)) (sym (known .1)) (sym (known .0)) q
 
   sound : Sound s im
-  sound = sound-after s (fresh h) (h .commands) (start .sound)
+  sound = sound-after s (formattedImage h) (h .commands) (start .sound)
 
   holds : (a : ℕ) → contentOf s im a ≡ lastWrite es a
-  holds a = holds-after s (fresh h) (h .commands) (start .sound) a ∙ ap (lastFrom es a) (start .blank a)
+  holds a = holds-after s (formattedImage h) (h .commands) (start .sound) a ∙ ap (lastFrom es a) (start .blank a)
+
+  -- each step of the history is allowed where it is done
+  all-allowed : AllAllowed s (format h .steps ++ stepsIn es) (h .given)
+  all-allowed =
+      allowed-append s (format h .steps) (stepsIn es) (h .given) (start .allowed)
+      (allowed-after s (formattedImage h) (h .commands) (start .sound))
 
 -- ---- demand 2
 
@@ -108,17 +116,30 @@ on-any-image s im x a buffer e =
 pub one-more-command : OneMoreCommand
 one-more-command h x a buffer t long = on-any-image (shape h) (end h) x a buffer (reads-the-last-write h a buffer t long .0) .1
 
+nowhere : {p : ℕ} → Nowhere ≡ At p → ⊥
+nowhere e = let z : _≡_ {A = ℕ} 0 1 = cc in omega arith
+
+pub lends-what-is-read : LendsWhatIsRead
+unfolding pageLeft lentPage
+lends-what-is-read s im a p buffer long = rw long (go (readRefusal s im (blocksOf s im) 512 a) (holder s im (blocksOf s im) a))
+  where
+    -- nothing is lent where n refuses, or where no page holds the content
+    go : (n : ℕ) (q : Place) → unless n Nowhere q ≡ At p → unless n buffer (bytesAt im q) ≡ lentBytes im (unless n Nowhere q)
+    go zero (At r) e = refl
+    go zero Nowhere e = absurd (nowhere e)
+    go (suc n) q e = absurd (nowhere e)
+
 pub never-programmed-twice : NeverProgrammedTwice
 never-programmed-twice h =
     by-shape h (λ z im es. T (neverTwice z (format h .steps ++ stepsIn es)) × FindErased z (format h .steps ++ stepsIn es) (h .given)) (
-      never-twice (s h) (format h .steps ++ stepsIn (es h)) (h .given) (start h .fits) all,
-      find-erased (s h) (format h .steps ++ stepsIn (es h)) (h .given) all,
+      never-twice (s h) (format h .steps ++ stepsIn (es h)) (h .given) (start h .fits) (all-allowed h),
+      find-erased (s h) (format h .steps ++ stepsIn (es h)) (h .given) (all-allowed h),
     )
-  where
-    all : AllAllowed (s h) (format h .steps ++ stepsIn (es h)) (h .given)
-    all =
-        allowed-append (s h) (format h .steps) (stepsIn (es h)) (h .given) (start h .allowed)
-        (allowed-after (s h) (fresh h) (h .commands) (start h .sound))
+
+pub bad-blocks-stay : BadBlocksStay
+bad-blocks-stay h b =
+    by-shape h (λ z im es. T (isBad z (h .given) b) → T (leftAlone z b (format h .steps ++ stepsIn es)))
+    (bad-alone (s h) b (format h .steps ++ stepsIn (es h)) (h .given) (start h .fits) (all-allowed h))
 
 -- the number of an answer is that of the refusal, or 8
 number-cases : (n cut : ℕ) (ts : List Step)
@@ -165,17 +186,17 @@ stays-well-formed h =
 pub at-most-twice-the-writes : AtMostTwiceTheWrites
 at-most-twice-the-writes h =
     by-shape h (λ z im es. erasesIn es ≤ 2 * howMany counted es)
-    (omega (arith, wear (s h) (fresh h) (h .commands) (start h .sound), none-in (s h) (fresh h) (start h .clean)))
+    (omega (arith, wear (s h) (formattedImage h) (h .commands) (start h .sound), none-in (s h) (formattedImage h) (start h .clean)))
 
 pub few-logical-blocks : FewLogicalBlocks
 few-logical-blocks h S few =
     by-shape h (λ z im es. FallIn z S es → erasesIn es ≤ 2 * (howMany counted es / h .pages) + howMany wasCut es)
     (λ f.
-    let r = wear-few (s h) S few (fresh h) (h .commands) (start h .sound) (λ l n j t e. start h .noLive j t) f in
+    let r = wear-few (s h) S few (formattedImage h) (h .commands) (start h .sound) (λ l n j t e. start h .noLive j t) f in
     let q : r .0 ≤ howMany counted (es h) / h .pages =
     le-div-iff-mul-le {k = h .pages} (omega (arith, start h .fits .limits .pages-low)) .1
-    (omega (arith, r .1, logPages-none (s h) (blocksOf (s h) (fresh h)) (start h .noLive))) in
-    omega (arith, r .2, none-in (s h) (fresh h) (start h .clean)))
+    (omega (arith, r .1, logPages-none (s h) (blocksOf (s h) (formattedImage h)) (start h .noLive))) in
+    omega (arith, r .2, none-in (s h) (formattedImage h) (start h .clean)))
 
 module _ (s : Shape) (im : Image) (a : ℕ) (d : List ℕ) (t : WriteTaken s im (length d) a) where
   taken-erases : erases (writeList s im (blocksOf s im) a d) ≤ 2
@@ -222,6 +243,25 @@ power-up-recovers s im size cut = go (powerUpRefusal s im (blocksOf s im) size) 
         subst (λ (us : List Step). RecoveredCard s (stepsDone s us im)) (sym all)
         (card-of s (stepsDone s ts im) (powerUp-end s im w .0) (powerUp-end s im w .1))
     go (suc n) e z = absurd (omega arith)
+
+table-same : (s : Shape) (c c′ : Blocks) → SamePlaces s c c′ → (n : ℕ) → tableOf s c n ≡ tableOf s c′ n
+unfolding tableOf
+table-same s c c′ f zero = refl
+table-same s c c′ f (suc l) = cc (table-same s c c′ f l, f l .0, f l .1)
+
+pub table-of-the-image-left : TableOfTheImageLeft
+unfolding tableLeft powerUpReply stepsDone
+table-of-the-image-left s im old cut z =
+    ap (λ (n : ℕ). unless n old (tableOf s (blocksOf s im) (s .logical))) z ∙ go (powerUpRefusal s im (blocksOf s im) (length old)) refl
+  where
+    -- an image that no step has changed, or one with obsolete blocks erased
+    go : (n : ℕ) → powerUpRefusal s im (blocksOf s im) (length old) ≡ n
+        → let im′ : Image = imageLeft s im (unless n (refusedBy n) (carriedOut cut (powerUpList s (blocksOf s im)))) in
+        tableOf s (blocksOf s im) (s .logical) ≡ tableOf s (blocksOf s im′) (s .logical)
+    go zero e =
+        table-same s (blocksOf s im) (blocksOf s (stepsDone s (take cut (powerUpList s (blocksOf s im))) im))
+        (powerUp-cut s im (powerUp-taken s im (length old) e) cut .places) (s .logical)
+    go (suc n) e = refl
 
 pub write-leaves-recovered : WriteLeavesRecovered
 unfolding writeReply

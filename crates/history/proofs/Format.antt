@@ -12,7 +12,7 @@ use Rattle.rules.specs.declared.shape.Shape.{Shape}
 use Rattle.rules.specs.declared.block.State.the-variants.{Free}
 use Rattle.rules.specs.declared.block.Block.{Block}
 use Rattle.rules.specs.Below.{pickBelow}
-use Rattle.rules.specs.Shape.{needed, blockOf, withinLimits}
+use Rattle.rules.specs.Shape.{goodNeeded, blockOf, withinLimits}
 use Rattle.rules.specs.Page.{Image}
 use Rattle.rules.specs.WellFormed.{Blocks, notUsed, isGood, isFree, isIll, isUsed, isLive, liveLogs, blocksOf}
 use Rattle.rules.specs.Steps.{Step, erase, stepDone, stepsDone, formatList}
@@ -72,7 +72,7 @@ wipe s (x ∷ xs) im w a =
 
 module _ (s : Shape) (im : Image) (w : Fits s im)
     (empty : (j : ℕ) → (T (isUsed (blocksOf s im j .state)) → ⊥) × (T (isIll (blocksOf s im j .state)) → ⊥))
-    (enough : needed s ≤ goodBlocks s (blocksOf s im)) where
+    (enough : goodNeeded s ≤ goodBlocks s (blocksOf s im)) where
   abbrev c : Blocks
   c = blocksOf s im
 
@@ -114,7 +114,7 @@ pub record Formatted (s : Shape) (im : Image) (r : Reply) : Type 0 where
   pub clean : Recovered s (blocksOf s (imageLeft s im r))
   pub allowed : AllAllowed s (r .steps) im
 
-module _ (s : Shape) (im : Image) (w : Fits s im) (enough : needed s ≤ goodBlocks s (blocksOf s im)) where
+module _ (s : Shape) (im : Image) (w : Fits s im) (enough : goodNeeded s ≤ goodBlocks s (blocksOf s im)) where
   dirty : ℕ → Bool
   dirty j = isGood (blocksOf s im j .state) && not (isFree (blocksOf s im j .state))
 
@@ -150,7 +150,7 @@ module _ (s : Shape) (im : Image) (w : Fits s im) (enough : needed s ≤ goodBlo
       im′ : Image
       im′ = stepsDone s (map erase (pickBelow (s .blocks) dirty)) im
 
-      enough′ : needed s ≤ goodBlocks s (blocksOf s im′)
+      enough′ : goodNeeded s ≤ goodBlocks s (blocksOf s im′)
       enough′ = omega (arith, all-wiped .good)
 
       empty : (j : ℕ) → (T (isUsed (blocksOf s im′ j .state)) → ⊥) × (T (isIll (blocksOf s im′ j .state)) → ⊥)
@@ -179,6 +179,6 @@ format-done s im cut = go (formatRefusal s im (blocksOf s im)) refl
         let r₂ = chain-zero (tooFewGood s (blocksOf s im)) 3 0 (r₁ .1) in
         let w = withinLimits-within s (length (im .bytes)) (length (im .spare))
         (passes (withinLimits s (length (im .bytes)) (length (im .spare))) (r₁ .0)) in
-        list-formatted s im w (nltb→le (goodBlocks s (blocksOf s im)) (needed s) (not-T (tooFewGood s (blocksOf s im)) (r₂ .0))) (carriedOut cut ts)
+        list-formatted s im w (nltb→le (goodBlocks s (blocksOf s im)) (goodNeeded s) (not-T (tooFewGood s (blocksOf s im)) (r₂ .0))) (carriedOut cut ts)
         (elim (done-number cut ts) [ inl q ↦ take-all cut ts (q .1) | inr q ↦ absurd (omega (arith, q .0)) ])
     go (suc n) e z = absurd (omega arith)

@@ -10,12 +10,12 @@ use lib.Seq.{take-append-le, take-append-add}
 use lib.Dec.{ltb, eqb, lt→ltb}
 use Rattle.rules.specs.declared.shape.Shape.{Shape}
 use Rattle.rules.specs.Spare.{logKind, copyKind, kindIn, addressIn, spareBytes}
-use Rattle.rules.specs.Below.{found, listBelow}
+use Rattle.rules.specs.Below.{ifAny, listBelow}
 use Rattle.rules.specs.Shape.{blockOf, logicalPage}
 use Rattle.rules.specs.Page.{Image}
 use Rattle.rules.specs.WellFormed.{Blocks, blocksOf, dataBlock, liveLog}
 use Rattle.rules.specs.Content.{content}
-use Rattle.rules.specs.Steps.{Step, erase, taken, newNumber, mergeList, copies, Case, room, fresh, full, mergeFirst, ownStep, logNumber, writeList}
+use Rattle.rules.specs.Steps.{Step, erase, taken, newNumber, mergeList, copies, Case, room, fresh, merging, mergeFirst, ownStep, logNumber, writeList}
 use Rattle.rules.specs.Replies.{carriedOut}
 use Rattle.laws.proofs.Tests.{is-true, is-false, true-is, false-is, and-i, or-l, or-r, or-e, dec-lt, eq→eqb, nlt→ltb}
 use Rattle.laws.proofs.Spare.{spareBytes-kind, spareBytes-address}
@@ -61,13 +61,13 @@ own-before : (s : Shape) (im : Image) (c : Blocks) (a : ℕ) (k : Case) → ownD
 unfolding mergeList copies ownDone
 own-before s im c a room = refl
 own-before s im c a fresh = refl
-own-before s im c a (full m) =
+own-before s im c a (merging m) =
     let g : ℕ → List ℕ = λ o. content s im c (logicalPage s m o) in
     let ts : List Step = listBelow (s .pages) (copyStep s (taken s c) (newNumber s c) m g) in
-    own-append a ts (map erase (found (liveLog s c m) ++ found (dataBlock s c m)))
-    ∙ ap (λ (b : Bool). b || ownDone a (map erase (found (liveLog s c m) ++ found (dataBlock s c m))))
+    own-append a ts (map erase (ifAny (liveLog s c m) ++ ifAny (dataBlock s c m)))
+    ∙ ap (λ (b : Bool). b || ownDone a (map erase (ifAny (liveLog s c m) ++ ifAny (dataBlock s c m))))
     (own-copies s a (taken s c) (newNumber s c) m g (s .pages))
-    ∙ own-erases a (found (liveLog s c m) ++ found (dataBlock s c m))
+    ∙ own-erases a (ifAny (liveLog s c m) ++ ifAny (dataBlock s c m))
 
 module _ (s : Shape) (im : Image) (a : ℕ) (d : List ℕ) (small : a < 65536) (cut : ℕ) where
   abbrev list : List Step

@@ -10,8 +10,8 @@ use lib.ListN.{length}
 use lib.Dec.{T, eqb, eqb→eq}
 use Rattle.rules.specs.declared.shape.Shape.{Shape}
 use Rattle.rules.specs.declared.block.Block.{Block}
-use Rattle.rules.specs.Below.{none, found}
-use Rattle.rules.specs.Spare.{highestNumber, logKind}
+use Rattle.rules.specs.Below.{none, ifAny}
+use Rattle.rules.specs.Spare.{numberLimit, logKind}
 use Rattle.rules.specs.Shape.{pageNo, blockOf, offsetOf, logicalPage, inRange}
 use Rattle.rules.specs.Page.{Image, pageBytes}
 use Rattle.rules.specs.WellFormed.{Blocks, isFree, isUsed, isComplete, dataNumber, isData, isLive, isObsolete, dataBlock, liveLog, liveLogs, blocksOf}
@@ -52,7 +52,7 @@ pub record Ready (s : Shape) (im : Image) (a : ℕ) (d : List ℕ) (b n : ℕ) :
   pub inside : T (inRange s a)
   pub place : Place s (blocksOf s im) (blockOf s a) b n
   pub below : blocksOf s im b .filled < s .pages
-  pub high : n ≤ highestNumber
+  pub high : n ≤ numberLimit
 
 -- ---- what is left
 
@@ -68,8 +68,8 @@ pub record Appends (s : Shape) (im : Image) (a : ℕ) (d : List ℕ) (im′ : Im
 pub record Fills (s : Shape) (im : Image) (a : ℕ) (d : List ℕ) (b : ℕ) (im′ : Image) : Type 0 where
   pub sound : Sound s im′
   pub wasLive : T (isLive s (blocksOf s im) b)
-  pub along : Along s (Erasing s im′) 0 (map erase (found (dataBlock s (blocksOf s im) (blockOf s a)))) im′
-  pub clean : Recovered s (blocksOf s (stepsDone s (map erase (found (dataBlock s (blocksOf s im) (blockOf s a)))) im′))
+  pub along : Along s (Erasing s im′) 0 (map erase (ifAny (dataBlock s (blocksOf s im) (blockOf s a)))) im′
+  pub clean : Recovered s (blocksOf s (stepsDone s (map erase (ifAny (dataBlock s (blocksOf s im) (blockOf s a)))) im′))
   pub obsolete : obsoletes s im′ ≤ 1
   pub pages : logPages s (blocksOf s im′) + s .pages ≤ logPages s (blocksOf s im) + 1
   pub live : LiveIs s (blocksOf s im) (blocksOf s im′)
@@ -348,14 +348,14 @@ module _ (s : Shape) (im : Image) {a : ℕ} {d : List ℕ} {b n : ℕ} (r : Read
     fill-sound : Sound s im′
     fill-sound = sound-with (made′ .wf)
 
-    tail : Along s (Erasing s im′) 0 (map erase (found o)) im′
-        × ((j : ℕ) → T (isObsolete s (blocksOf s (stepsDone s (map erase (found o)) im′)) j) → T (isObsolete s (blocksOf s im′) j)
-        × All (λ z. j ≢ z) (found o))
+    tail : Along s (Erasing s im′) 0 (map erase (ifAny o)) im′
+        × ((j : ℕ) → T (isObsolete s (blocksOf s (stepsDone s (map erase (ifAny o)) im′)) j) → T (isObsolete s (blocksOf s im′) j)
+        × All (λ z. j ≢ z) (ifAny o))
     tail =
-        erasing s im′ (found o) 0 im′ (erasing-start s im′ fill-sound) (found-all (λ z. T (isObsolete s (blocksOf s im′) z)) o former)
+        erasing s im′ (ifAny o) 0 im′ (erasing-start s im′ fill-sound) (found-all (λ z. T (isObsolete s (blocksOf s im′) z)) o former)
         (found-distinct o)
 
-    fill-clean : Recovered s (blocksOf s (stepsDone s (map erase (found o)) im′))
+    fill-clean : Recovered s (blocksOf s (stepsDone s (map erase (ifAny o)) im′))
     fill-clean j t =
         let r = tail .1 j t in
         found-out o j (below-none s c (w .wf .records)

@@ -7,10 +7,10 @@ use lib.Dec.{T, ltb, T-not, ltb→lt, nltb→le}
 use Rattle.rules.specs.declared.shape.Shape.{Shape}
 use Rattle.rules.specs.declared.block.Block.{Block}
 use Rattle.rules.specs.Below.{none, isNone, lowestBelow}
-use Rattle.rules.specs.Spare.{highestNumber}
+use Rattle.rules.specs.Spare.{numberLimit}
 use Rattle.rules.specs.Page.{Image}
 use Rattle.rules.specs.WellFormed.{Blocks, isFree, isLive, isObsolete, liveLog, liveLogs, blocksOf}
-use Rattle.rules.specs.Steps.{stepsDone, erases, taken, highest, newNumber, mergeList, victim, Case, room, fresh, full, writeCase, numbersNeeded, mergeFirst, logBlock, logNumber}
+use Rattle.rules.specs.Steps.{stepsDone, erases, taken, highest, newNumber, mergeList, victim, Case, room, fresh, merging, writeCase, numbersNeeded, mergeFirst, logBlock, logNumber}
 use Rattle.laws.proofs.Tests.{tcase, is-true, is-false, eq→eqb, ne→eqb}
 use Rattle.laws.proofs.Below.{lowestBelow-found, countBelow-some, countBelow-none}
 use Rattle.laws.proofs.Roles.{used-below, below-none, free-not-used, live-used, liveLog-found, liveLog-is, Recovered, taken-free}
@@ -49,7 +49,7 @@ module _ (s : Shape) (im : Image) (w : Sound s im) (l : ℕ) where
   pub data Cases : Case → Type 0 where
     has-room : T (isLive s c (liveLog s c l)) → c (liveLog s c l) .logical ≡ l → c (liveLog s c l) .filled < s .pages → Cases room
     has-none : NoLive s c l → liveLogs s c < s .logs → Cases fresh
-    must-merge : (m : ℕ) → MergeFirst m → Cases (full m)
+    must-merge : (m : ℕ) → MergeFirst m → Cases (merging m)
 
   with-log : T (isLive s c (liveLog s c l)) → c (liveLog s c l) .logical ≡ l → Cases (writeCase s c l)
   unfolding writeCase
@@ -119,7 +119,7 @@ module _ (s : Shape) (im : Image) (w : Sound s im) (l : ℕ) where
       pub cost₀ : Cost s im (Victim s im l) 0 0 e im₁
       pub place : Place s (blocksOf s im₁) l b n
       pub below : blocksOf s im₁ b .filled < s .pages
-      pub high : n ≤ highestNumber
+      pub high : n ≤ numberLimit
       pub start : T (isLive s (blocksOf s im₁) b) → e ≡ 0
 
     none-yet : obsoletes s im ≡ 0
@@ -152,7 +152,7 @@ module _ (s : Shape) (im : Image) (w : Sound s im) (l : ℕ) where
 
     -- ---- the merge of m
 
-    module _ (m : ℕ) (q : MergeFirst m) (fit : highest s c + 2 ≤ highestNumber) where
+    module _ (m : ℕ) (q : MergeFirst m) (fit : highest s c + 2 ≤ numberLimit) where
       abbrev v : ℕ
       v = liveLog s c m
 
@@ -162,7 +162,7 @@ module _ (s : Shape) (im : Image) (w : Sound s im) (l : ℕ) where
       m-below : m < s .logical
       m-below = subst (λ (i : ℕ). i < s .logical) (q .logical) (w .wf .records .inRange v (live-used s c v (q .live)))
 
-      one : newNumber s c ≤ highestNumber
+      one : newNumber s c ≤ numberLimit
       one = omega arith
 
       -- the log block of m is live no longer
@@ -203,7 +203,7 @@ module _ (s : Shape) (im : Image) (w : Sound s im) (l : ℕ) where
             cost = inr (merge-cost e im′ r);
           }
 
-      merge-goal : Goal (full m)
+      merge-goal : Goal (merging m)
       merge-goal = (
         merge-along s im w rec m m-below one Pre copying-pre copied-pre,
         record {
@@ -240,7 +240,7 @@ module _ (s : Shape) (im : Image) (w : Sound s im) (l : ℕ) where
               gone im₁ (r .0 .live) (r .1)
               (subst (λ (i : ℕ). T (isLive s (blocksOf s im₁) i)) (q .only j (y .0) (ap (λ (z : Block). z .logical) (sym (y .1)) ∙ e)) t)
 
-    pub pre-goal : (k : Case) → Cases k → highest s c + numbersNeeded k ≤ highestNumber → Goal k
+    pub pre-goal : (k : Case) → Cases k → highest s c + numbersNeeded k ≤ numberLimit → Goal k
     unfolding stepsDone
     pre-goal room (has-room t e h) fit = (
       pre-start,
@@ -266,4 +266,4 @@ module _ (s : Shape) (im : Image) (w : Sound s im) (l : ℕ) where
         start = λ u. refl;
       },
     )
-    pre-goal (full k) (must-merge m q) fit = merge-goal m q fit
+    pre-goal (merging k) (must-merge m q) fit = merge-goal m q fit

@@ -1,20 +1,23 @@
--- Of a list of steps that are each allowed where they are done: no page is programmed twice between erases. Assumes nothing.
-use mathlib.Core.Path.{sym, subst}
+-- Of steps that are each allowed where they are done: no page is programmed twice between erases, and none is of a bad block. Assumes nothing.
+use mathlib.Core.Path.{_≡_, refl, sym, subst}
 use mathlib.Core.Logic.{_≢_, inl, inr}
-use mathlib.Core.Bool.{not}
+use mathlib.Core.Bool.{not, _&&_}
 use mathlib.Core.List.{List, [], _∷_}
 use Prim.Native.Nat.{ℕ, _/_, _%_}
+use native.Mathlib.Omega.{arith}
 use lib.Dec.{T, eqb, eqb→eq, T-not, not-T}
 use Rattle.rules.specs.declared.shape.Shape.{Shape}
 use Rattle.rules.specs.Bytes.{all255}
 use Rattle.rules.specs.Page.{Image, pageBytes, pageSpare, erased}
+use Rattle.rules.specs.WellFormed.{isBad}
 use Rattle.rules.specs.Steps.{Step, program, erase, stepDone}
 use Rattle.rules.specs.Facts.{Fits}
-use Rattle.laws.proofs.Tests.{and-l, and-r, and-i, or-e, dec-eq, eq→eqb}
+use Rattle.laws.proofs.Tests.{and-l, and-r, and-i, or-e, dec-eq, eq→eqb, ne→eqb}
 use Rattle.laws.proofs.Shape.{pageNo-of, page-place-below}
-use Rattle.laws.proofs.Pages.{SamePage, program-fits, program-page, program-other, erase-fits, erase-other}
-use Rattle.history.specs.History.{again, neverTwice, FindErased}
-use Rattle.laws.proofs.Along.{Fresh, AllAllowed}
+use Rattle.laws.proofs.Pages.{SamePage, program-fits, program-page, program-other, erase-fits, erase-other, StepIn, stepBlock, step-fits, step-other}
+use Rattle.laws.proofs.Blocks.{isBad-same}
+use Rattle.history.specs.History.{again, neverTwice, FindErased, leftAlone}
+use Rattle.laws.proofs.Along.{Fresh, Allowed, AllAllowed}
 
 pub find-erased : (s : Shape) (ts : List Step) (im : Image) → AllAllowed s ts im → FindErased s ts im
 find-erased s [] im a = tt
@@ -64,3 +67,27 @@ never-twice s (program p d t ∷ ts) im w a =
     (not-T (again s p ts) (not-again s ts im′ w′ (a .1) p (now-programmed s im w p d t (a .0))))
     (never-twice s ts im′ w′ (a .1))
 never-twice s (erase b ∷ ts) im w a = never-twice s ts (stepDone s (erase b) im) (erase-fits s im w b (a .0 .below)) (a .1)
+
+-- ---- bad blocks
+
+-- a step is of a block of the card that is not bad
+allowed-good : (s : Shape) (x : Step) (im : Image) → Allowed s x im → StepIn s x × (T (isBad s im (stepBlock s x)) → ⊥)
+allowed-good s (program p d t) im a = (a .page, a .good)
+allowed-good s (erase b) im a = (a .below, a .good)
+
+leftAlone-cons : (s : Shape) (b : ℕ) (x : Step) (ts : List Step) → leftAlone s b (x ∷ ts) ≡ (not (eqb (stepBlock s x) b) && leftAlone s b ts)
+leftAlone-cons s b (program p d t) ts = refl
+leftAlone-cons s b (erase j) ts = refl
+
+-- b stays bad, since no step changes its status byte
+pub bad-alone : (s : Shape) (b : ℕ) (ts : List Step) (im : Image) → Fits s im → AllAllowed s ts im → T (isBad s im b) → T (leftAlone s b ts)
+bad-alone s b [] im w a t = tt
+bad-alone s b (x ∷ ts) im w a t =
+    let g = allowed-good s x im (a .0) in
+    let n : b ≢ stepBlock s x = λ e. g .1 (subst (λ (j : ℕ). T (isBad s im j)) e t) in
+    let im′ : Image = stepDone s x im in
+    let t′ : T (isBad s im′ b) =
+    subst T (sym (isBad-same s im′ im b (step-other s im w x (g .0) b 0 n (omega (arith, w .limits .pages-low))))) t in
+    subst T (sym (leftAlone-cons s b x ts))
+    (and-i (not (eqb (stepBlock s x) b)) (leftAlone s b ts) (not-T (eqb (stepBlock s x) b) (ne→eqb (stepBlock s x) b (λ e. n (sym e))))
+    (bad-alone s b ts im′ (step-fits s im w x (g .0)) (a .1) t′))

@@ -9,12 +9,12 @@ use lib.ListN.{length}
 use lib.Dec.{T, T-not}
 use Rattle.rules.specs.declared.shape.Shape.{Shape}
 use Rattle.rules.specs.declared.block.Block.{Block}
-use Rattle.rules.specs.Below.{found}
-use Rattle.rules.specs.Spare.{highestNumber, logKind}
+use Rattle.rules.specs.Below.{ifAny}
+use Rattle.rules.specs.Spare.{numberLimit, logKind}
 use Rattle.rules.specs.Shape.{blockOf, inRange}
 use Rattle.rules.specs.Page.{Image}
 use Rattle.rules.specs.WellFormed.{Blocks, isComplete, dataBlock, blockAt, blocksOf}
-use Rattle.rules.specs.Steps.{Step, erase, stepDone, stepsDone, erases, programs, highest, Case, room, fresh, full, writeCase, numbersNeeded, mergeFirst, logBlock, logNumber, ownStep, eraseAfter, ownList, writeList}
+use Rattle.rules.specs.Steps.{Step, erase, stepDone, stepsDone, erases, programs, highest, Case, room, fresh, merging, writeCase, numbersNeeded, mergeFirst, logBlock, logNumber, ownStep, eraseAfter, ownList, writeList}
 use Rattle.laws.proofs.Tests.{tcase, is-true, is-false}
 use Rattle.laws.proofs.Roles.{Recovered}
 use Rattle.laws.proofs.Records.{blocksOf-at}
@@ -56,7 +56,7 @@ module _ (s : Shape) (im : Image) (w : Sound s im) (rec : Recovered s (blocksOf 
 
   -- the erases after it
   abbrev after : List ℕ
-  after = cond (isComplete s (blockAt s im₂ b)) (found (dataBlock s c₁ l)) []
+  after = cond (isComplete s (blockAt s im₂ b)) (ifAny (dataBlock s c₁ l)) []
 
   abbrev OwnGoal : Type 0
   OwnGoal =
@@ -112,8 +112,8 @@ module _ (s : Shape) (im : Image) (w : Sound s im) (rec : Recovered s (blocksOf 
   own-fill : T (isComplete s x) → OwnGoal
   own-fill t =
       rw (x-there, is-true (isComplete s x) t) (
-        subst (λ (k : ℕ). Along s Post k (map erase (found (dataBlock s c₁ l))) im₂) (sym (r .start (p .wasLive)))
-            (along-map s (Erasing s im₂) Post post 0 (map erase (found (dataBlock s c₁ l))) im₂ (p .along)),
+        subst (λ (k : ℕ). Along s Post k (map erase (ifAny (dataBlock s c₁ l))) im₂) (sym (r .start (p .wasLive)))
+            (along-map s (Erasing s im₂) Post post 0 (map erase (ifAny (dataBlock s c₁ l))) im₂ (p .along)),
         p .clean,
         made .allowed,
       )
@@ -171,7 +171,7 @@ module _ (s : Shape) (im : Image) (a : ℕ) (d : List ℕ) where
   write-is = refl
 
   pub write-ok : Sound s im → Recovered s (blocksOf s im) → length d ≡ 512 → T (inRange s a)
-      → highest s (blocksOf s im) + numbersNeeded theCase ≤ highestNumber
+      → highest s (blocksOf s im) + numbersNeeded theCase ≤ numberLimit
       → PlanOk s im preSteps own postErases (written a d (contentOf s im)) (blockOf s a) (Victim s im (blockOf s a)) 1
   unfolding ownStep eraseAfter
   write-ok w rec long inside fit =
@@ -190,4 +190,4 @@ module _ (s : Shape) (im : Image) (a : ℕ) (d : List ℕ) where
       pre-programs : (k : Case) → programs (mergeFirst s im (blocksOf s im) k) ≤ s .pages
       pre-programs room = omega arith
       pre-programs fresh = omega arith
-      pre-programs (full m) = omega (arith, merge-programs s im (blocksOf s im) m)
+      pre-programs (merging m) = omega (arith, merge-programs s im (blocksOf s im) m)

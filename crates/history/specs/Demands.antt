@@ -1,4 +1,4 @@
--- Demands 2 and 3 of the customer, of every history. Each is a statement; crates/history/proofs/Demands.antt proves it. Assumes nothing.
+-- Demands 2 and 3 of every history, as statements; docs/PROMISES.md has them in words, and proofs/Demands.antt the proofs. Assumes nothing.
 use mathlib.Core.Path.{_≡_}
 use mathlib.Core.Logic.{_≢_, _⊎_}
 use mathlib.Core.Bool.{Bool}
@@ -7,13 +7,14 @@ use Prim.Native.Nat.{ℕ, _+_, _*_, _/_, _≤_}
 use lib.Dec.{T}
 use lib.ListN.{length}
 use Rattle.rules.specs.declared.shape.Shape.{Shape}
+use Rattle.rules.specs.declared.place.Place.the-variants.{At}
 use Rattle.rules.specs.Below.{countBelow}
 use Rattle.rules.specs.Shape.{blockOf, inRange}
 use Rattle.rules.specs.Page.{Image}
-use Rattle.rules.specs.WellFormed.{blocksOf, isFree, wellFormed}
+use Rattle.rules.specs.WellFormed.{isFree, isBad, blocksOf, wellFormed}
 use Rattle.rules.specs.Steps.{programs, erases, stepsDone, taken, writeCase, mergeFirst, writeList}
-use Rattle.rules.specs.Replies.{number, outsideLimits, tooFewGood, unrecovered, readReply, powerUpReply, writeReply, writeRefusal, imageLeft, pageLeft}
-use Rattle.history.specs.History.{Command, read, replyTo, History, end, shape, replyThen, answerThen, leftThen, events, pageAfter, lastWrite, counted, wasCut, howMany, erasesIn, FallIn, allSteps, neverTwice, FindErased}
+use Rattle.rules.specs.Replies.{number, outsideLimits, tooFewGood, unrecovered, readReply, powerUpReply, writeReply, writeRefusal, imageLeft, tableOf, tableLeft, pageLeft, lentPage, lentBytes}
+use Rattle.history.specs.History.{Command, read, replyTo, History, end, shape, replyThen, answerThen, leftThen, events, pageAfter, lastWrite, counted, wasCut, howMany, erasesIn, FallIn, allSteps, neverTwice, FindErased, leftAlone}
 
 -- ---- demand 2
 
@@ -38,9 +39,19 @@ OnAnyImage =
     (number (readReply s im′ (length buffer) a .answer) ≡ 0)
     × (pageLeft s im′ buffer a ≡ pageAfter x (replyTo s im x) a (pageLeft s im buffer a))
 
+-- Where a page is lent, a read of it gives the bytes lent.
+abbrev pub LendsWhatIsRead : Type 0
+LendsWhatIsRead =
+    (s : Shape) (im : Image) (a p : ℕ) (buffer : List ℕ) → length buffer ≡ 512 → lentPage s im a ≡ At p
+    → pageLeft s im buffer a ≡ lentBytes im (lentPage s im a)
+
 -- Of the whole list of steps done in a history: no page is programmed twice between erases, and each program finds its 528 bytes all 255.
 abbrev pub NeverProgrammedTwice : Type 0
 NeverProgrammedTwice = (h : History) → T (neverTwice (shape h) (allSteps h)) × FindErased (shape h) (allSteps h) (h .given)
+
+-- Bad blocks are never programmed or erased, by the format or by any command after it.
+abbrev pub BadBlocksStay : Type 0
+BadBlocksStay = (h : History) (b : ℕ) → T (isBad (shape h) (h .given) b) → T (leftAlone (shape h) b (allSteps h))
 
 -- After every history the image is well-formed, and no command is answered 1, 4 or 5.
 abbrev pub StaysWellFormed : Type 0
@@ -54,7 +65,7 @@ StaysWellFormed =
 abbrev pub AtMostTwiceTheWrites : Type 0
 AtMostTwiceTheWrites = (h : History) → erasesIn (events h) ≤ 2 * howMany counted (events h)
 
--- If those writes, all n, fall in at most K logical blocks, which S marks, and c of them are answered 8: at most 2 x floor(n / P) + c.
+-- If those writes, all n, fall in at most K logical blocks, which S marks, and c of them are answered 8: at most 2 x floor(n / P) + c erases.
 abbrev pub FewLogicalBlocks : Type 0
 FewLogicalBlocks =
     (h : History) (S : ℕ → Bool) → countBelow (h .logical) S ≤ h .logs → FallIn (shape h) S (events h)
@@ -91,7 +102,14 @@ PowerUpRecovers =
     (s : Shape) (im : Image) (size cut : ℕ) → number (powerUpReply s im size cut .answer) ≡ 0
     → RecoveredCard s (imageLeft s im (powerUpReply s im size cut))
 
--- So does a write that is answered 0.
+-- The table that power-up fills is that of the image that it leaves.
+abbrev pub TableOfTheImageLeft : Type 0
+TableOfTheImageLeft =
+    (s : Shape) (im : Image) (old : List ℕ) (cut : ℕ) → number (powerUpReply s im (length old) cut .answer) ≡ 0
+    → let im′ : Image = imageLeft s im (powerUpReply s im (length old) cut) in
+    tableLeft s im old cut ≡ tableOf s (blocksOf s im′) (s .logical)
+
+-- A write that is answered 0 leaves one too.
 abbrev pub WriteLeavesRecovered : Type 0
 WriteLeavesRecovered =
     (s : Shape) (im : Image) (a : ℕ) (d : List ℕ) (cut : ℕ) → number (writeReply s im a d cut .answer) ≡ 0

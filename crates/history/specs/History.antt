@@ -1,4 +1,7 @@
--- Histories: a format that is answered 0, and then any commands, refused ones too. Assumes nothing.
+-- Histories: a format that is answered 0, and then any reads, writes and power-ups, refused ones too. Assumes nothing.
+--
+-- A later format begins a history of its own, since the image given is any image, and one that is cut promises only its steps. Page lending
+-- changes nothing.
 use mathlib.Core.Path.{_≡_}
 use mathlib.Core.Bool.{Bool, true, false, _&&_, _||_, not, cond}
 use mathlib.Core.List.{List, [], _∷_, _++_}
@@ -70,15 +73,15 @@ module _ (h : History) where
   format = formatReply (shapeThen (h .given)) (h .given) (h .cut)
 
   -- the image that the format leaves
-  abbrev pub fresh : Image
-  fresh = imageLeft (shapeThen (h .given)) (h .given) format
+  abbrev pub formattedImage : Image
+  formattedImage = imageLeft (shapeThen (h .given)) (h .given) format
 
   abbrev pub events : List Event
-  events = eventsFrom (h .pages) (h .logical) (h .logs) fresh (h .commands)
+  events = eventsFrom (h .pages) (h .logical) (h .logs) formattedImage (h .commands)
 
   -- the image that the history leaves
   abbrev pub end : Image
-  end = imageAfter (h .pages) (h .logical) (h .logs) fresh (h .commands)
+  end = imageAfter (h .pages) (h .logical) (h .logs) formattedImage (h .commands)
 
   -- ---- one command more: its shape, its reply with the number of its answer, and the image that it leaves
 
@@ -112,7 +115,7 @@ ownDone a (t ∷ ts) = isOwn a t || ownDone a ts
 unfoldable pub happened : ℕ → Reply → Bool
 happened a r = answered 0 r || (answered 8 r && ownDone a (r .steps))
 
--- page a after a command, where it was before
+-- what page a reads as after a command, if it read as `before` till then
 abbrev pub pageAfter : Command → Reply → ℕ → List ℕ → List ℕ
 pageAfter (read b buffer) r a before = before
 pageAfter (write b d cut) r a before = cond (eqb a b && happened b r) d before
@@ -150,6 +153,7 @@ abbrev pub erasesIn : List Event → ℕ
 erasesIn [] = 0
 erasesIn (e ∷ es) = erasesOf (e .reply .answer) + erasesIn es
 
+-- the page of a write; of other commands it is never asked
 abbrev pub pageOfWrite : Command → ℕ
 pageOfWrite (read a buffer) = a
 pageOfWrite (write a d cut) = a
@@ -186,3 +190,9 @@ abbrev pub FindErased : Shape → List Step → Image → Type 0
 FindErased s [] im = Unit {0}
 FindErased s (program p d t ∷ ts) im = T (erased (pageBytes im p) (pageSpare im p)) × FindErased s ts (stepDone s (program p d t) im)
 FindErased s (erase b ∷ ts) im = FindErased s ts (stepDone s (erase b) im)
+
+-- no step is of block b
+abbrev pub leftAlone : Shape → ℕ → List Step → Bool
+leftAlone s b [] = true
+leftAlone s b (program p d t ∷ ts) = not (eqb (p / s .pages) b) && leftAlone s b ts
+leftAlone s b (erase j ∷ ts) = not (eqb j b) && leftAlone s b ts

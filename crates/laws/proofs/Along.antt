@@ -1,7 +1,7 @@
 -- Lists of steps done to an image, cut anywhere: what holds before and after each step, and that each is allowed. Assumes nothing.
 use mathlib.Core.Path.{_≡_, refl, subst}
 use mathlib.Core.List.{List, [], _∷_, _++_, map}
-use Prim.Native.Nat.{ℕ, zero, suc, _+_, _<_}
+use Prim.Native.Nat.{ℕ, zero, suc, _+_, _/_, _<_}
 use native.Mathlib.Omega.{arith}
 use lib.ListN.{take}
 use lib.Dec.{T}
@@ -14,10 +14,11 @@ use Rattle.laws.proofs.Pages.{Programs}
 
 -- ---- allowed steps
 
--- a program is of a page of the card that is erased, and leaves it programmed
+-- a program is of a page of the card that is erased, in a good block, and leaves it programmed
 pub record Fresh (s : Shape) (im : Image) (p : ℕ) (d t : List ℕ) : Type 0 where
   pub page : Programs s p d t
   pub erased : T (erased (pageBytes im p) (pageSpare im p))
+  pub good : T (isBad s im (p / s .pages)) → ⊥
   pub programmed : T (all255 t) → ⊥
 
 -- an erase is of a good block of the card

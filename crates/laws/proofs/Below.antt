@@ -1,14 +1,15 @@
 -- Laws of the tests, counts, searches and lists over the numbers below n. Assumes nothing.
 use mathlib.Core.Path.{_≡_, refl, sym, ap, _∙_, subst}
 use mathlib.Core.Logic.{_≢_, _⊎_, inl, inr}
-use mathlib.Core.Bool.{Bool, true, false, not, cond}
+use mathlib.Core.Bool.{Bool, true, false, not, cond, _&&_}
 use mathlib.Core.List.{List, [], _∷_, _++_}
 use Prim.Native.Nat.{ℕ, zero, suc, _+_, _-_, _≤_, _<_, max}
 use native.Mathlib.Omega.{arith}
 use lib.ListN.{length, getD, take, length-append, List·getD-append}
 use lib.Seq.{getD-append-seam, take-all, take-append-le}
 use lib.Dec.{T, ltb, eqb, ltb→lt, nltb→le, eqb→eq, eqb-refl, T-not}
-use Rattle.rules.specs.Below.{none, isNone, found, orNone, lowerOf, allBelow, countBelow, highestBelow, firstBelow, lowestBelow, pickBelow, listBelow}
+use native.Mathlib.Numerals.{add-one}
+use Rattle.rules.specs.Below.{none, isNone, ifAny, orNone, lowerOf, allBelow, countBelow, highestBelow, firstBelow, lowestBelow, pickBelow, listBelow}
 use Rattle.laws.proofs.Tests.{tcase, is-true, is-false, and-l, and-r, and-i, cond-yes, cond-no, cond-both, dec-eq, dec-lt, eq→eqb, ne→eqb}
 
 -- ---- allBelow
@@ -34,6 +35,18 @@ allBelow-same (suc n) p q h =
     let a : allBelow n p ≡ allBelow n q = allBelow-same n p q (λ j k. h j (omega arith)) in
     let b : p n ≡ q n = h n (omega arith) in
     cc
+
+-- two tests of all are one
+pub allBelow-and : (n : ℕ) (p q : ℕ → Bool) → (allBelow n p && allBelow n q) ≡ allBelow n (λ j. p j && q j)
+unfolding allBelow
+allBelow-and zero p q = refl
+allBelow-and (suc n) p q = exchange (allBelow n p) (p n) (allBelow n q) (q n) ∙ ap (λ (t : Bool). t && (p n && q n)) (allBelow-and n p q)
+  where
+    exchange : (a b c d : Bool) → ((a && b) && (c && d)) ≡ ((a && c) && (b && d))
+    exchange true true c d = refl
+    exchange true false true d = refl
+    exchange true false false d = refl
+    exchange false b c d = refl
 
 -- ---- sums, of which countBelow is one
 
@@ -143,9 +156,6 @@ countBelow-move n p q b a k h f e =
       sumBelow-move n (λ j. bit (p j)) (λ j. bit (q j)) b a k h (λ j l ne. bit-mono (q j) (p j) (f j l ne)) e,
     )
 
-pub countBelow-at : (n : ℕ) (p : ℕ → Bool) (j : ℕ) → j < n → T (p j) → 0 < countBelow n p
-countBelow-at n p j h t = omega (arith, countBelow-sum n p, sumBelow-at n (λ i. bit (p i)) j h, bit-one (p j) t)
-
 pub countBelow-some : (n : ℕ) (p : ℕ → Bool) → 0 < countBelow n p → (j : ℕ) × (j < n) × T (p j)
 unfolding countBelow
 countBelow-some zero p h = absurd (omega arith)
@@ -169,6 +179,18 @@ pub countBelow-all : (n : ℕ) (p : ℕ → Bool) → ((j : ℕ) → j < n → T
 unfolding countBelow
 countBelow-all zero p f = refl
 countBelow-all (suc n) p f = omega (arith, countBelow-all n p (λ j h. f j (omega arith)), bit-one (p n) (f n (omega arith)))
+
+pub countBelow-full : (n : ℕ) (p : ℕ → Bool) → countBelow n p ≡ n → (j : ℕ) → j < n → T (p j)
+unfolding countBelow
+countBelow-full zero p e j h = absurd (omega arith)
+countBelow-full (suc n) p e j h =
+    elim (tcase (p n)) [
+      | inl t ↦ elim (dec-eq j n) [
+        | inl q ↦ subst (λ (k : ℕ). T (p k)) (sym q) t
+        | inr q ↦ countBelow-full n p (omega (arith, bit-one (p n) t)) j (omega arith)
+      ]
+      | inr t ↦ absurd (omega (arith, bit-zero (p n) (T-not (p n) t), countBelow-most n p))
+    ]
 
 -- those that pass go by f, no two to one place, to places below m of weight 1 or more
 pub countBelow-places : (n m : ℕ) (p : ℕ → Bool) (f w : ℕ → ℕ) → ((j : ℕ) → j < n → T (p j) → f j < m) → ((j : ℕ) → j < n → T (p j) → 0 < w (f j))
@@ -360,11 +382,6 @@ firstBelow-is n p i h r =
       | inr q ↦ absurd (q .fails i (r .below) (r .passes))
     ]
 
--- the only one that passes
-pub firstBelow-only : (n : ℕ) (p : ℕ → Bool) (i : ℕ) → n ≤ none → i < n → T (p i) → ((j : ℕ) → j < n → T (p j) → j ≡ i) → firstBelow n p ≡ i
-firstBelow-only n p i h l t f =
-    firstBelow-is n p i h (record { below = l; passes = t; first = λ j k u. let e : j ≡ i = f j (omega arith) u in omega arith })
-
 pub firstBelow-none : (n : ℕ) (p : ℕ → Bool) → n ≤ none → ((j : ℕ) → j < n → T (p j) → ⊥) → firstBelow n p ≡ none
 firstBelow-none n p h f = elim (firstBelow-found n p h) [ inl r ↦ absurd (f (firstBelow n p) (r .below) (r .passes)) | inr r ↦ r .is ]
 
@@ -483,14 +500,14 @@ distinct-append (x ∷ xs) ys d e a = (
 
 -- ---- a block, if there is one
 
-pub found-all : (Q : ℕ → Type 0) (b : ℕ) → (b ≢ none → Q b) → All Q (found b)
+pub found-all : (Q : ℕ → Type 0) (b : ℕ) → (b ≢ none → Q b) → All Q (ifAny b)
 found-all Q b f =
     elim (dec-eq b none) [
       | inl e ↦ rw (is-true (isNone b) (eq→eqb b none e)) tt
       | inr n ↦ rw (is-false (isNone b) (ne→eqb b none n)) (f n, tt)
     ]
 
-pub found-distinct : (b : ℕ) → Distinct (found b)
+pub found-distinct : (b : ℕ) → Distinct (ifAny b)
 found-distinct b =
     elim (dec-eq b none) [
       | inl e ↦ rw (is-true (isNone b) (eq→eqb b none e)) tt
@@ -498,7 +515,7 @@ found-distinct b =
     ]
 
 -- what differs from all of found b, and is a block, differs from b
-pub found-out : (b j : ℕ) → j ≢ none → All (λ x. j ≢ x) (found b) → j ≢ b
+pub found-out : (b j : ℕ) → j ≢ none → All (λ x. j ≢ x) (ifAny b) → j ≢ b
 found-out b j h a e =
     let n : b ≢ none = λ q. h (e ∙ q) in
     let a′ : All (λ x. j ≢ x) (b ∷ []) = rw (is-false (isNone b) (ne→eqb b none n)) at a in
@@ -593,3 +610,59 @@ module _ {A : Type 0} where
             (omega (arith, length-append (listBelow n f) (f n ∷ []), listBelow-length n f)))
         | inr e ↦ take-append-le k (listBelow n f) (f n ∷ []) (omega (arith, listBelow-length n f)) ∙ listBelow-take n k f (omega arith)
       ]
+
+  -- what is taken of them is all below a number
+  pub listBelow-some : (n k : ℕ) (f : ℕ → A) → (m : ℕ) × (m ≤ n) × (take k (listBelow n f) ≡ listBelow m f)
+  listBelow-some n k f =
+      elim (dec-lt k n) [
+        | inl h ↦ (k, omega arith, listBelow-take n k f (omega arith))
+        | inr h ↦ (n, omega arith, take-all k (listBelow n f) (omega (arith, listBelow-length n f)))
+      ]
+
+-- ---- one more, as a loop counts
+
+pub allBelow-more : (n : ℕ) (p : ℕ → Bool) → allBelow (n + 1) p ≡ (allBelow n p && p n)
+unfolding allBelow
+allBelow-more n p = ap (λ (m : ℕ). allBelow m p) (add-one n)
+
+pub countBelow-more : (n : ℕ) (p : ℕ → Bool) → countBelow (n + 1) p ≡ countBelow n p + cond (p n) 1 0
+unfolding countBelow
+countBelow-more n p = ap (λ (m : ℕ). countBelow m p) (add-one n)
+
+pub highestBelow-more : (n : ℕ) (f : ℕ → ℕ) → highestBelow (n + 1) f ≡ max (highestBelow n f) (f n)
+unfolding highestBelow
+highestBelow-more n f = ap (λ (m : ℕ). highestBelow m f) (add-one n)
+
+pub firstBelow-more : (n : ℕ) (p : ℕ → Bool) → firstBelow (n + 1) p ≡ orNone (firstBelow n p) (cond (p n) n none)
+unfolding firstBelow
+firstBelow-more n p = ap (λ (m : ℕ). firstBelow m p) (add-one n)
+
+pub lowestBelow-more : (n : ℕ) (p : ℕ → Bool) (f : ℕ → ℕ) → lowestBelow (n + 1) p f ≡ cond (p n) (lowerOf f (lowestBelow n p f) n) (lowestBelow n p f)
+unfolding lowestBelow
+lowestBelow-more n p f = ap (λ (m : ℕ). lowestBelow m p f) (add-one n)
+
+pub listBelow-more : {A : Type 0} (n : ℕ) (g : ℕ → A) → listBelow n g ++ (g n ∷ []) ≡ listBelow (n + 1) g
+listBelow-more n g = sym (ap (λ (m : ℕ). listBelow m g) (add-one n) ∙ listBelow-suc n g)
+
+-- ---- one turn of a loop
+
+pub firstBelow-zero : (p : ℕ → Bool) → none ≡ firstBelow 0 p
+unfolding firstBelow
+firstBelow-zero p = refl
+
+pub allBelow-zero : (p : ℕ → Bool) → true ≡ allBelow 0 p
+unfolding allBelow
+allBelow-zero p = refl
+
+-- one turn of a search for the first that passes
+pub first-turn : (p : ℕ → Bool) (j : ℕ) {t r : ℕ} {b : Bool} → t ≡ firstBelow j p → b ≡ p j → r ≡ orNone t (cond b j none) → r ≡ firstBelow (j + 1) p
+first-turn p j {t} {r} {b} e f g =
+    g ∙ ap (λ (u : Bool). orNone t (cond u j none)) f ∙ ap (λ (u : ℕ). orNone u (cond (p j) j none)) e ∙ sym (firstBelow-more j p)
+
+-- and of a test of all
+pub all-turn : (p : ℕ → Bool) (j : ℕ) {t r b : Bool} → t ≡ allBelow j p → b ≡ p j → r ≡ (t && b) → r ≡ allBelow (j + 1) p
+all-turn p j {t} {r} {b} e f g = g ∙ ap (λ (u : Bool). t && u) f ∙ ap (λ (u : Bool). u && p j) e ∙ sym (allBelow-more j p)
+
+-- and of a maximum
+pub highest-turn : (f : ℕ → ℕ) (j : ℕ) {t x r : ℕ} → t ≡ highestBelow j f → x ≡ f j → r ≡ max t x → r ≡ highestBelow (j + 1) f
+highest-turn f j {t} {x} {r} e g h = h ∙ ap (max t) g ∙ ap (λ (u : ℕ). max u (f j)) e ∙ sym (highestBelow-more j f)

@@ -7,7 +7,7 @@ use Prim.Native.Nat.{ℕ, zero, suc, _+_, _≤_, _<_}
 use native.Mathlib.Numerals.{add-one}
 use native.Mathlib.Omega.{arith}
 use borrow.Author.Tests.{ne-eqb}
-use lib.Dec.{T, eqb, eqb-refl, T-not, eqb→eq}
+use lib.Dec.{T, eqb, T-not, eqb→eq}
 use lib.ListN.{length, getD}
 use Rattle.rules.specs.declared.shape.Shape.{Shape}
 use Rattle.rules.specs.declared.page.Page.{Page}
@@ -15,24 +15,20 @@ use Rattle.rules.specs.declared.page.Page.the-variants.{Erased, Entry}
 use Rattle.rules.specs.declared.block.State.the-variants.{Free, Used}
 use Rattle.rules.specs.declared.block.Block.{Block}
 use Rattle.rules.specs.Below.{allBelow, listBelow}
-use Rattle.rules.specs.Spare.{highestNumber, copyKind, numberIn, kindIn, statusIn, addressIn, spareBytes}
+use Rattle.rules.specs.Spare.{numberLimit, copyKind, numberIn, kindIn, statusIn, addressIn, spareBytes}
 use Rattle.rules.specs.Shape.{pageNo, blockOf, offsetOf, logicalPage, inRange}
-use Rattle.rules.specs.Page.{Image, pageBytes, pageSpare, pageAt, isErased, isEntry, numberOf, kindOf, addressOf}
-use Rattle.rules.specs.WellFormed.{notUsed, inOrder, goodBlock, isBad, pagesOf, blockAt, blocksOf, isComplete, isGood, isUsed, isFree}
+use Rattle.rules.specs.Page.{Image, pageBytes, pageSpare, pageAt, isEntry, numberOf, kindOf, addressOf}
+use Rattle.rules.specs.WellFormed.{notUsed, inOrder, goodBlock, isBad, pagesOf, blockAt, blocksOf, isGood, isUsed, isFree}
 use Rattle.rules.specs.Steps.{Step, program, erase, stepDone, stepsDone}
 use Rattle.rules.specs.Facts.{Fits}
-use Rattle.laws.proofs.Tests.{tcase, is-true, and-i, dec-eq, dec-lt, eq→eqb, each-chain}
+use Rattle.laws.proofs.Tests.{tcase, is-true, and-i, dec-eq, dec-lt, eq→eqb}
 use Rattle.laws.proofs.Below.{All, allBelow-at, listBelow-same}
-use Rattle.laws.proofs.Filled.{Filled, usedWith, free-goodBlock, filled-goodBlock, UsedPages, goodBlock-free, goodBlock-used}
-use Rattle.laws.proofs.Filled.{NextPage, PageAdded, filled-more, inOrder-more}
+use Rattle.laws.proofs.Filled.{Filled, usedWith, free-goodBlock, filled-goodBlock, UsedPages, goodBlock-free, goodBlock-used, NextPage, PageAdded, filled-more, inOrder-more}
 use Rattle.laws.proofs.Records.{blocksOf-at, blocksOf-outside, pagesOf-at, blockAt-bad, blockAt-good}
-use Rattle.laws.proofs.Shape.{pageNo-below, pageNo-same-block, pageNo-same-place}
-use Rattle.laws.proofs.Shape.{logicalPage-block, logicalPage-offset, block-inRange, inRange-small}
+use Rattle.laws.proofs.Shape.{pageNo-below, pageNo-same-block, pageNo-same-place, logicalPage-block, logicalPage-offset, block-inRange, inRange-small}
 use Rattle.laws.proofs.Spare.{Kind, InTable, spareBytes-length, spareBytes-status}
 use Rattle.laws.proofs.Roles.{used-good, free-good}
-use Rattle.laws.proofs.Pages.{SamePage, samePage-then, pageAt-is, pageAt-same, pageOf-spareBytes, pageOf-isEntry}
-use Rattle.laws.proofs.Pages.{Programs, program-fits, program-page, program-other, erase-fits, erase-page, erase-pageAt}
-use Rattle.laws.proofs.Pages.{StepIn, stepBlock, step-other, StepsIn, Apart, steps-other, stepsDone-append}
+use Rattle.laws.proofs.Pages.{SamePage, samePage-then, pageAt-is, pageAt-same, pageOf-spareBytes, pageOf-isEntry, Programs, program-fits, program-page, program-other, erase-fits, erase-page, erase-pageAt, StepIn, stepBlock, step-other, StepsIn, Apart, steps-other, stepsDone-append}
 
 -- ---- a block of an image
 
@@ -59,7 +55,7 @@ module _ (s : Shape) (im : Image) (b : ℕ) where
   blank-blockAt f = blockAt-good s im b (f .good) ∙ free-goodBlock s (pagesOf s im b) (λ i h. f .pages .blank i (omega arith) h)
 
   -- bad blocks are neither free nor used
-  isGood-good : T (isGood (blockAt s im b .state)) → T (isBad s im b) → ⊥
+  pub isGood-good : T (isGood (blockAt s im b .state)) → T (isBad s im b) → ⊥
   isGood-good t bad = subst (λ (x : Block). T (isGood (x .state))) (blockAt-bad s im b bad) t
 
   pub free-blockFilled : T (isFree (blockAt s im b .state)) → (n k l : ℕ) → BlockFilled s im b n k l 0
@@ -97,10 +93,14 @@ module _ (s : Shape) (im im′ : Image) where
       ap (λ (read : List Page). λ (i : ℕ). getD read i Erased)
       (listBelow-same (s .pages) (λ i. pageAt im (pageNo s b i)) (λ i. pageAt im′ (pageNo s b i)) h)
 
+  pub isBad-same : (b : ℕ) → SamePage im im′ (pageNo s b 0) → isBad s im b ≡ isBad s im′ b
+  unfolding isBad
+  isBad-same b h = ap (λ (t : List ℕ). not (eqb (statusIn t) 255)) (h .spare-are)
+
   pub blockAt-same : 0 < s .pages → (b : ℕ) → ((i : ℕ) → i < s .pages → SamePage im im′ (pageNo s b i)) → blockAt s im b ≡ blockAt s im′ b
-  unfolding blockAt isBad
+  unfolding blockAt
   blockAt-same p b h =
-      let status : isBad s im b ≡ isBad s im′ b = ap (λ (t : List ℕ). not (eqb (statusIn t) 255)) (h 0 p .spare-are) in
+      let status : isBad s im b ≡ isBad s im′ b = isBad-same b (h 0 p) in
       let pages : pagesOf s im b ≡ pagesOf s im′ b = pagesOf-same b (λ i k. pageAt-same im im′ (pageNo s b i) (h i k)) in
       cc
 
@@ -173,7 +173,7 @@ module _ (s : Shape) where
 -- what the spare table can hold
 pub record Writable (n k a : ℕ) : Type 0 where
   pub number-low : 1 ≤ n
-  pub number-high : n ≤ highestNumber
+  pub number-high : n ≤ numberLimit
   pub kind : Kind k
   pub address : a < 65536
 
@@ -293,7 +293,7 @@ pub record Copied (s : Shape) (im : Image) (b n l : ℕ) (d : ℕ → List ℕ) 
   pub others : (j o : ℕ) → j ≢ b → o < s .pages → SamePage im′ im (pageNo s j o)
 
 module _ (s : Shape) (im : Image) (w : Fits s im) (b : ℕ) (hb : b < s .blocks) (free : T (isFree (blockAt s im b .state)))
-    {n : ℕ} (low : 1 ≤ n) (high : n ≤ highestNumber) {l : ℕ} (hl : l < s .logical) (few : s .logical ≤ s .blocks)
+    {n : ℕ} (low : 1 ≤ n) (high : n ≤ numberLimit) {l : ℕ} (hl : l < s .logical) (few : s .logical ≤ s .blocks)
     (d : ℕ → List ℕ) (long : (o : ℕ) → o < s .pages → length (d o) ≡ 512) where
   one-copied : (i : ℕ) → i < s .pages → (im′ : Image) → Copied s im b n l d i im′ → Copied s im b n l d (i + 1) (stepDone s (copyStep s b n l d i) im′)
   one-copied i h im′ c =
@@ -345,10 +345,6 @@ module _ (s : Shape) (im : Image) (w : Fits s im) (b : ℕ) (hb : b < s .blocks)
       let c : Copied s im b n l d i im′ = copies-copied i h in
       filled-blockAt s im′ b (c .filled) some ∙ ap (usedWith n copyKind l i) (is-true (inOrder s (pagesOf s im′ b) i) (c .in-order))
 
-pub usedWith-complete : (s : Shape) (n k l : ℕ) → T (isComplete s (usedWith n k l (s .pages) true))
-unfolding isComplete
-usedWith-complete s n k l = each-chain true (eqb (s .pages) (s .pages) ∷ true ∷ []) tt (eqb-refl (s .pages), (tt, tt))
-
 -- ---- the pages of an image, by the record of their block
 
 -- page p, the page i of a used block with record x: the spare table's bytes, and W2 to W4
@@ -364,9 +360,6 @@ pub record EntryAt (s : Shape) (im : Image) (x : Block) (p i : ℕ) : Type 0 whe
 module _ (s : Shape) (im : Image) (b i : ℕ) (h : i < s .pages) where
   pub free-page : T (isFree (blockAt s im b .state)) → pageAt im (pageNo s b i) ≡ Erased
   free-page t = sym (pagesOf-at s im b i h) ∙ free-blockFilled s im b t 0 0 0 .pages .blank i (omega arith) h
-
-  pub programmed-not-free : (T (isErased (pageAt im (pageNo s b i))) → ⊥) → T (isFree (blockAt s im b .state)) → ⊥
-  programmed-not-free f t = f (subst (λ (q : Page). T (isErased q)) (sym (free-page t)) tt)
 
   module _ (t : T (isUsed (blockAt s im b .state))) where
     used : UsedPages s (pagesOf s im b) (blockAt s im b)
@@ -414,8 +407,5 @@ module _ (s : Shape) (im : Image) (p : 0 < s .pages) (b : ℕ) (t : T (isUsed (b
   first-entry : EntryAt s im (blockAt s im b) (pageNo s b 0) 0
   first-entry = used-entry s im b 0 p t (used-usedPages s im b p t .some)
 
-  pub used-number : (1 ≤ blockAt s im b .number) × (blockAt s im b .number ≤ highestNumber)
+  pub used-number : (1 ≤ blockAt s im b .number) × (blockAt s im b .number ≤ numberLimit)
   used-number = let e = first-entry in (omega (arith, e .number, e .table .number-low), omega (arith, e .number, e .table .number-high))
-
-  pub used-kind : Kind (blockAt s im b .kind)
-  used-kind = let e = first-entry in subst Kind (e .kind) (e .table .kind)

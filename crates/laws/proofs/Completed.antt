@@ -14,16 +14,13 @@ use Rattle.rules.specs.Page.{Image}
 use Rattle.rules.specs.WellFormed.{isComplete, blockAt, blocksOf}
 use Rattle.rules.specs.Steps.{stepDone}
 use Rattle.rules.specs.Facts.{Fits}
+use Rattle.laws.specs.Foreseen.{completes}
 use Rattle.laws.proofs.Tests.{bool-ext, and-l, and-r, and-i, or-e, or-r, eq→eqb}
 use Rattle.laws.proofs.Records.{blocksOf-at}
 use Rattle.laws.proofs.Roles.{free-good, used-good, complete-e, complete-i}
 use Rattle.laws.proofs.Blocks.{oneMore, Writable, Joins}
 use Rattle.laws.proofs.Change.{changed-same}
 use Rattle.laws.proofs.Steps.{nextStep, Programmed, program-done, good-in}
-
--- All but one page are there in order, and the page has the last offset.
-abbrev pub completes : Shape → Block → ℕ → Bool
-completes s x a = x .ordered && (eqb (offsetOf s a) (x .filled) && eqb (x .filled + 1) (s .pages))
 
 module _ (s : Shape) (x : Block) (n k a : ℕ) where
   -- of a block with a page or more

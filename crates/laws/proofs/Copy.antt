@@ -13,15 +13,15 @@ use Rattle.rules.specs.declared.block.State.the-variants.{Free}
 use Rattle.rules.specs.declared.block.Block.{Block}
 use Rattle.rules.specs.Below.{listBelow}
 use Rattle.rules.specs.Bytes.{all255}
-use Rattle.rules.specs.Spare.{highestNumber, copyKind, spareBytes}
+use Rattle.rules.specs.Spare.{numberLimit, copyKind, spareBytes}
 use Rattle.rules.specs.Shape.{pageNo, logicalPage}
 use Rattle.rules.specs.Page.{Image, pageBytes}
-use Rattle.rules.specs.WellFormed.{notUsed, isFree, blockAt, blocksOf}
+use Rattle.rules.specs.WellFormed.{notUsed, isFree, isBad, blockAt, blocksOf}
 use Rattle.rules.specs.Steps.{Step, stepDone, stepsDone, erases, programs}
 use Rattle.rules.specs.Facts.{Fits}
 use Rattle.laws.proofs.Tests.{false-is}
 use Rattle.laws.proofs.Below.{listBelow-zero, listBelow-suc}
-use Rattle.laws.proofs.Shape.{pageNo-below}
+use Rattle.laws.proofs.Shape.{pageNo-below, pageNo-block}
 use Rattle.laws.proofs.Spare.{spareBytes-length, spareBytes-not-255}
 use Rattle.laws.proofs.Pages.{stepsDone-append}
 use Rattle.laws.proofs.Records.{blocksOf-at, pagesOf-at}
@@ -78,7 +78,7 @@ module _ (s : Shape) (fb n l : ℕ) (g : ℕ → List ℕ) where
     pub pages : (o : ℕ) → o < m → pageBytes (copied m im) (pageNo s fb o) ≡ g o
     pub next : m < s .pages → Allowed s (copyStep s fb n l g m) (copied m im)
 
-  module _ (im : Image) (w : Fits s im) (below : fb < s .blocks) (fr : T (isFree (blocksOf s im fb .state))) (low : 1 ≤ n) (high : n ≤ highestNumber)
+  module _ (im : Image) (w : Fits s im) (below : fb < s .blocks) (fr : T (isFree (blocksOf s im fb .state))) (low : 1 ≤ n) (high : n ≤ numberLimit)
       (hl : l < s .logical) (few : s .logical ≤ s .blocks) (long : (o : ℕ) → o < s .pages → length (g o) ≡ 512) where
     free-read : T (isFree (blockAt s im fb .state))
     free-read = subst (λ (x : Block). T (isFree (x .state))) (blocksOf-at s im fb below) fr
@@ -109,6 +109,7 @@ module _ (s : Shape) (fb n l : ℕ) (g : ℕ → List ℕ) where
                   spareBytes-length n copyKind (logicalPage s l m);
             };
             erased = pageAt-erased (copied m im) (pageNo s fb m) (sym (pagesOf-at s (copied m im) fb m k) ∙ q .filled .pages .blank m (le-refl m) k);
+            good = λ t. q .filled .good (subst (λ (b : ℕ). T (isBad s (copied m im) b)) (pageNo-block s fb m k) t);
             programmed = false-is (all255 (spareBytes n copyKind (logicalPage s l m))) (spareBytes-not-255 n copyKind (logicalPage s l m) (inr refl));
           };
         }

@@ -1,4 +1,4 @@
--- Erasing obsolete blocks, any of them in any order, cut anywhere: contents, W1 to W7 and the live log blocks stay. Assumes nothing.
+-- Erasing obsolete blocks, any of them in any order, cut anywhere: contents, W1 to W7, data blocks and live log blocks stay. Assumes nothing.
 use mathlib.Core.Path.{_≡_, refl, sym, ap, _∙_, subst}
 use mathlib.Core.Logic.{_≢_, inl, inr}
 use mathlib.Core.List.{List, [], _∷_, map}
@@ -9,7 +9,7 @@ use Rattle.rules.specs.declared.shape.Shape.{Shape}
 use Rattle.rules.specs.declared.block.State.the-variants.{Free}
 use Rattle.rules.specs.declared.block.Block.{Block}
 use Rattle.rules.specs.Below.{none, countBelow}
-use Rattle.rules.specs.Shape.{needed, blockOf}
+use Rattle.rules.specs.Shape.{goodNeeded, blockOf}
 use Rattle.rules.specs.Page.{Image}
 use Rattle.rules.specs.WellFormed.{Blocks, notUsed, isGood, isUsed, dataNumber, isData, isLive, isObsolete, dataBlock, liveLog, blocksOf}
 use Rattle.rules.specs.Content.{content}
@@ -29,7 +29,7 @@ use Rattle.laws.proofs.Steps.{Erases, erase-done}
 pub record Sound (s : Shape) (im : Image) : Type 0 where
   pub fits : Fits s im
   pub wf : WellFormed s (blocksOf s im)
-  pub enough : needed s ≤ goodBlocks s (blocksOf s im)
+  pub enough : goodNeeded s ≤ goodBlocks s (blocksOf s im)
 
 -- a card has as many blocks as it needs good ones
 pub logical-few : (s : Shape) (im : Image) → Sound s im → s .logical ≤ s .blocks
@@ -82,6 +82,10 @@ module _ (s : Shape) (im im′ : Image) (fits : Fits s im) (c : Blocks) (r : Rec
       (λ t. absurd (q .noLog (t .used) (t .log)))
 
 -- ---- one erase
+
+-- each logical block has the data block and the live log block that it had
+abbrev pub SamePlaces : Shape → Blocks → Blocks → Type 0
+SamePlaces s c c′ = (l : ℕ) → (dataBlock s c′ l ≡ dataBlock s c l) × (liveLog s c′ l ≡ liveLog s c l)
 
 idle-free : (s : Shape) → Idle s (notUsed Free)
 idle-free s = record { incomplete = λ t. complete-e s (notUsed Free) t .used; noLog = λ t. absurd t }
@@ -153,6 +157,13 @@ module _ (s : Shape) (im : Image) (w : Sound s im) (b : ℕ) (t : T (isObsolete 
       (highest-le s c′ (highest s c) (changed-elim c b (notUsed Free) (λ j z. j < s .blocks → z .number ≤ highest s c) (λ h. omega arith)
       (λ j n h. highest-ge s c j h)))
 
+  places : SamePlaces s c (blocksOf s im′)
+  places l =
+      rw (done .blocks) (
+        dataBlock-kept s c b (notUsed Free) l (calm .numbers l) (λ u. absurd (o .1 u)) (λ v. absurd (idle-free s .incomplete (v .complete))),
+        liveLog-kept s c b (notUsed Free) l (calm .numbers l) (λ u. absurd (o .2 u)) (λ v. absurd (v .used)),
+      )
+
 -- ---- lists of erases
 
 unfoldable pub obsoletes : Shape → Image → ℕ
@@ -164,10 +175,12 @@ pub record Erasing (s : Shape) (im : Image) (n : ℕ) (im′ : Image) : Type 0 w
   pub same : (a : ℕ) → contentOf s im′ a ≡ contentOf s im a
   pub total : n + obsoletes s im′ ≤ obsoletes s im
   pub live : LiveIs s (blocksOf s im) (blocksOf s im′)
+  pub places : SamePlaces s (blocksOf s im) (blocksOf s im′)
   pub highest : highest s (blocksOf s im′) ≤ highest s (blocksOf s im)
 
 pub erasing-start : (s : Shape) (im : Image) → Sound s im → Erasing s im 0 im
-erasing-start s im w = record { sound = w; same = λ a. refl; total = omega arith; live = λ j t. (t, refl); highest = omega arith }
+erasing-start s im w =
+    record { sound = w; same = λ a. refl; total = omega arith; live = λ j t. (t, refl); places = λ l. (refl, refl); highest = omega arith }
 
 pub liveIs-trans : (s : Shape) (a b c : Blocks) → LiveIs s a b → LiveIs s b c → LiveIs s a c
 liveIs-trans s a b c f g j t = let r = g j t in let q = f j (r .0) in (q .0, r .1 ∙ q .1)
@@ -182,6 +195,7 @@ module _ (s : Shape) (im : Image) where
         same = λ a. same s im′ (i .sound) b t a ∙ i .same a;
         total = omega (arith, fewer s im′ (i .sound) b t, i .total);
         live = liveIs-trans s (blocksOf s im) (blocksOf s im′) (blocksOf s (stepDone s (erase b) im′)) (i .live) (live s im′ (i .sound) b t);
+        places = λ l. let r = places s im′ (i .sound) b t l in let q = i .places l in (r .0 ∙ q .0, r .1 ∙ q .1);
         highest = omega (arith, lower s im′ (i .sound) b t, i .highest);
       }
 

@@ -10,8 +10,8 @@ use lib.ListN.{length}
 use lib.Dec.{T}
 use Rattle.rules.specs.declared.shape.Shape.{Shape}
 use Rattle.rules.specs.declared.block.Block.{Block}
-use Rattle.rules.specs.Below.{none, found, countBelow, listBelow}
-use Rattle.rules.specs.Spare.{highestNumber, logKind, copyKind}
+use Rattle.rules.specs.Below.{none, ifAny, countBelow, listBelow}
+use Rattle.rules.specs.Spare.{numberLimit, logKind, copyKind}
 use Rattle.rules.specs.Shape.{pageNo, blockOf, offsetOf, logicalPage}
 use Rattle.rules.specs.Page.{Image, pageBytes}
 use Rattle.rules.specs.WellFormed.{Blocks, isFree, isUsed, isComplete, isData, isLive, isObsolete, dataBlock, liveLog, blocksOf}
@@ -50,7 +50,7 @@ abbrev pub After : Shape → Image → ℕ → ℕ → Image → Type 0
 After s im l e im′ = Merging s im e im′ × NoLive s (blocksOf s im′) l
 
 module _ (s : Shape) (im : Image) (w : Sound s im) (rec : Recovered s (blocksOf s im)) (l : ℕ) (hl : l < s .logical)
-    (fb : ℕ) (fr : T (isFree (blocksOf s im fb .state))) (room : newNumber s (blocksOf s im) ≤ highestNumber) where
+    (fb : ℕ) (fr : T (isFree (blocksOf s im fb .state))) (room : newNumber s (blocksOf s im) ≤ numberLimit) where
   abbrev c : Blocks
   c = blocksOf s im
 
@@ -290,7 +290,7 @@ module _ (s : Shape) (im : Image) (w : Sound s im) (rec : Recovered s (blocksOf 
       ]
 
   abbrev out : List ℕ
-  out = found log ++ found old
+  out = ifAny log ++ ifAny old
 
   abbrev IsOld : ℕ → Type 0
   IsOld x = T (isObsolete s (blocksOf s im₂) x)
@@ -299,9 +299,9 @@ module _ (s : Shape) (im : Image) (w : Sound s im) (rec : Recovered s (blocksOf 
       × ((j : ℕ) → T (isObsolete s (blocksOf s (stepsDone s (map erase out) im₂)) j) → IsOld j × All (λ x. j ≢ x) out)
   tail =
       erasing s im₂ out 0 im₂ (erasing-start s im₂ sound₂)
-      (all-append IsOld (found log) (found old) (found-all IsOld log (λ h. log-old h .1)) (found-all IsOld old (λ h. data-old h .1)))
-      (distinct-append (found log) (found old) (found-distinct log) (found-distinct old)
-      (found-all (λ y. All (λ x. y ≢ x) (found log)) old
+      (all-append IsOld (ifAny log) (ifAny old) (found-all IsOld log (λ h. log-old h .1)) (found-all IsOld old (λ h. data-old h .1)))
+      (distinct-append (ifAny log) (ifAny old) (found-distinct log) (found-distinct old)
+      (found-all (λ y. All (λ x. y ≢ x) (ifAny log)) old
       (λ h. found-all (λ x. old ≢ x) log
       (λ k r. data-not-live s c log (subst (λ (i : ℕ). T (isData s c i)) r (data-old h .0)) (log-old k .0)))))
 
@@ -326,8 +326,8 @@ module _ (s : Shape) (im : Image) (w : Sound s im) (rec : Recovered s (blocksOf 
       let h : j ≢ none =
       below-none s c (w .wf .records) (used-below s (blocksOf s im₂) (sound₂ .wf .records) j (obsolete-e s (blocksOf s im₂) j (r .0) .0)) in
       elim (obsolete-then j (r .0)) [
-        | inl y ↦ found-out old j h (all-right (λ x. j ≢ x) (found log) (found old) (r .1)) y
-        | inr y ↦ found-out log j h (all-left (λ x. j ≢ x) (found log) (found old) (r .1)) y
+        | inl y ↦ found-out old j h (all-right (λ x. j ≢ x) (ifAny log) (ifAny old) (r .1)) y
+        | inr y ↦ found-out log j h (all-left (λ x. j ≢ x) (ifAny log) (ifAny old) (r .1)) y
       ]
 
   -- ---- all of it
@@ -371,7 +371,7 @@ module _ (s : Shape) (im : Image) (w : Sound s im) (rec : Recovered s (blocksOf 
 -- ---- the merge, as document 01 has it: the block that is taken is free
 
 module _ (s : Shape) (im : Image) (w : Sound s im) (rec : Recovered s (blocksOf s im)) (l : ℕ) (hl : l < s .logical)
-    (room : newNumber s (blocksOf s im) ≤ highestNumber) where
+    (room : newNumber s (blocksOf s im) ≤ numberLimit) where
   fb-free : T (isFree (blocksOf s im (taken s (blocksOf s im)) .state))
   fb-free = taken-free s (blocksOf s im) (w .wf) rec (w .enough) .0
 
@@ -393,7 +393,7 @@ merge-programs s im c l =
     omega (
       arith,
       programs-append (listBelow (s .pages) (copyStep s (taken s c) (newNumber s c) l g))
-          (map erase (found (liveLog s c l) ++ found (dataBlock s c l))),
+          (map erase (ifAny (liveLog s c l) ++ ifAny (dataBlock s c l))),
       copies-programs s (taken s c) (newNumber s c) l g (s .pages),
-      programs-erases (found (liveLog s c l) ++ found (dataBlock s c l)),
+      programs-erases (ifAny (liveLog s c l) ++ ifAny (dataBlock s c l)),
     )

@@ -3,23 +3,24 @@ use mathlib.Core.Path.{_≡_, refl, sym, ap, _∙_, subst}
 use mathlib.Core.Logic.{_≢_, _⊎_, inl, inr}
 use mathlib.Core.Bool.{Bool, true, not, _&&_, _||_}
 use mathlib.Core.List.{List, _++_, map}
-use Prim.Native.Nat.{ℕ, zero, suc, _+_, _≤_, _<_}
+use Prim.Native.Nat.{ℕ, _+_, _≤_, _<_}
 use native.Mathlib.Omega.{arith}
 use native.Mathlib.Nat.{le-refl}
-use lib.Dec.{T, eqb, eqb→eq, not-T, T-not}
+use lib.Dec.{T, eqb, not-T, T-not}
 use Rattle.rules.specs.declared.shape.Shape.{Shape}
 use Rattle.rules.specs.declared.block.State.the-variants.{Free}
 use Rattle.rules.specs.declared.block.Block.{Block}
-use Rattle.rules.specs.Below.{none, found, firstBelow, listBelow}
-use Rattle.rules.specs.Spare.{highestNumber, copyKind}
-use Rattle.rules.specs.Shape.{blockOf, offsetOf, logicalPage}
+use Rattle.rules.specs.Below.{none, ifAny, firstBelow, listBelow}
+use Rattle.rules.specs.Spare.{numberLimit, copyKind}
+use Rattle.rules.specs.Shape.{blockOf, logicalPage}
 use Rattle.rules.specs.Page.{Image}
 use Rattle.rules.specs.WellFormed.{Blocks, notUsed, isFree, isUsed, dataBlock, liveLog, blockAt, blocksOf}
 use Rattle.rules.specs.Content.{content}
 use Rattle.rules.specs.Steps.{erase, stepsDone, taken, highest, newNumber, copies, mergeList}
 use Rattle.rules.specs.Facts.{Fits}
+use Rattle.laws.specs.Foreseen.{freeThen}
 use Rattle.laws.proofs.Tests.{bool-ext, and-l, and-r, and-i, or-l, or-r, or-e, dec-eq, eq→eqb, ne→eqb}
-use Rattle.laws.proofs.Below.{All, all-append, all-left, all-right, found-all, found-out, First, NoneBelow, firstBelow-found, firstBelow-same}
+use Rattle.laws.proofs.Below.{All, all-append, all-left, all-right, found-all, found-out, firstBelow-found, firstBelow-same}
 use Rattle.laws.proofs.Shape.{offsetOf-below}
 use Rattle.laws.proofs.Pages.{stepsDone-append, steps-fit}
 use Rattle.laws.proofs.Roles.{free-not-used, used-below, below-none, none-filled, data-used, live-used, dataBlock-found, liveLog-found, Recovered, highest-ge, highest-le, taken-free}
@@ -37,7 +38,7 @@ pub free-record : (s : Shape) (im : Image) (j : ℕ) → j < s .blocks → T (is
 free-record s im j h t =
     blocksOf-at s im j h ∙ blank-blockAt s im j (free-blockFilled s im j (subst (λ (x : Block). T (isFree (x .state))) (blocksOf-at s im j h) t) 0 0 0)
 
-module _ (s : Shape) (im : Image) (w : Sound s im) (rec : Recovered s (blocksOf s im)) (l : ℕ) (hl : l < s .logical) (room : newNumber s (blocksOf s im) ≤ highestNumber) where
+module _ (s : Shape) (im : Image) (w : Sound s im) (rec : Recovered s (blocksOf s im)) (l : ℕ) (hl : l < s .logical) (room : newNumber s (blocksOf s im) ≤ numberLimit) where
   abbrev c : Blocks
   c = blocksOf s im
 
@@ -78,9 +79,6 @@ module _ (s : Shape) (im : Image) (w : Sound s im) (rec : Recovered s (blocksOf 
   copying : (m : ℕ) → m ≤ s .pages → Copies s f (newNumber s c) l contents im m
   copying = made s im w rec l hl f f-free room
 
-  pub moment-fits : (m : ℕ) → m ≤ s .pages → Fits s (moment m)
-  moment-fits m h = copying m h .fits
-
   -- A copy step reads the image of that moment: by the records of the start, each page has the content that it had.
   pub moment-content : (m : ℕ) → m ≤ s .pages → (a : ℕ) → content s (moment m) c a ≡ content s im c a
   moment-content m h a =
@@ -109,7 +107,7 @@ module _ (s : Shape) (im : Image) (w : Sound s im) (rec : Recovered s (blocksOf 
   merged = stepsDone s (mergeList s im c l) im
 
   abbrev out : List ℕ
-  out = found v ++ found d
+  out = ifAny v ++ ifAny d
 
   abbrev copy : Block
   copy = copyRecord s f (newNumber s c) l contents (s .pages)
@@ -123,7 +121,7 @@ module _ (s : Shape) (im : Image) (w : Sound s im) (rec : Recovered s (blocksOf 
 
   out-below : All (λ b. b < s .blocks) out
   out-below =
-      all-append (λ b. b < s .blocks) (found v) (found d)
+      all-append (λ b. b < s .blocks) (ifAny v) (ifAny d)
       (found-all (λ b. b < s .blocks) v (λ ne. used-below s c (w .wf .records) v (v-used ne)))
       (found-all (λ b. b < s .blocks) d (λ ne. used-below s c (w .wf .records) d (d-used ne)))
 
@@ -138,8 +136,8 @@ module _ (s : Shape) (im : Image) (w : Sound s im) (rec : Recovered s (blocksOf 
       blocksOf-at s merged j h ∙ ap (λ (i : Image). blockAt s i j) merged-is
       ∙ erases-blockAt s j out (moment (s .pages)) (copied-all .fits) out-below
       (λ a. elim e [
-        | inl q ↦ found-out v j (below-none s c (w .wf .records) h) (all-left (λ x. j ≢ x) (found v) (found d) a) q
-        | inr q ↦ found-out d j (below-none s c (w .wf .records) h) (all-right (λ x. j ≢ x) (found v) (found d) a) q
+        | inl q ↦ found-out v j (below-none s c (w .wf .records) h) (all-left (λ x. j ≢ x) (ifAny v) (ifAny d) a) q
+        | inr q ↦ found-out d j (below-none s c (w .wf .records) h) (all-right (λ x. j ≢ x) (ifAny v) (ifAny d) a) q
       ])
 
   -- the others but the copy are as they were
@@ -147,7 +145,7 @@ module _ (s : Shape) (im : Image) (w : Sound s im) (rec : Recovered s (blocksOf 
   merged-kept j h nv nd =
       blocksOf-at s merged j h ∙ ap (λ (i : Image). blockAt s i j) merged-is
       ∙ steps-blockAt s (moment (s .pages)) (copied-all .fits) (map erase out) (erases-in s out out-below) j
-      (erases-apart s j out (all-append (λ x. j ≢ x) (found v) (found d) (found-all (λ x. j ≢ x) v (λ ne. nv)) (found-all (λ x. j ≢ x) d (λ ne. nd))))
+      (erases-apart s j out (all-append (λ x. j ≢ x) (ifAny v) (ifAny d) (found-all (λ x. j ≢ x) v (λ ne. nv)) (found-all (λ x. j ≢ x) d (λ ne. nd))))
       ∙ sym (blocksOf-at s (moment (s .pages)) j h) ∙ ap (λ (k : Blocks). k j) (copied-all .blocks)
 
   -- the block taken holds the copy
@@ -163,10 +161,7 @@ module _ (s : Shape) (im : Image) (w : Sound s im) (rec : Recovered s (blocksOf 
   abbrev freed : ℕ → Bool
   freed j = isFree (c j .state) || eqb j v || eqb j d
 
-  abbrev freeThen : ℕ → Bool
-  freeThen j = not (eqb j f) && freed j
-
-  free-test : (j : ℕ) → j < s .blocks → isFree (blocksOf s merged j .state) ≡ freeThen j
+  free-test : (j : ℕ) → j < s .blocks → isFree (blocksOf s merged j .state) ≡ freeThen c f v d j
   free-test j h =
       elim (dec-eq j f) [
         | inl e ↦ bool-ext _ _
@@ -186,7 +181,7 @@ module _ (s : Shape) (im : Image) (w : Sound s im) (rec : Recovered s (blocksOf 
         ]
       ]
     where
-      goes : j ≢ f → (j ≡ v) ⊎ (j ≡ d) → T (freed j) → isFree (blocksOf s merged j .state) ≡ freeThen j
+      goes : j ≢ f → (j ≡ v) ⊎ (j ≡ d) → T (freed j) → isFree (blocksOf s merged j .state) ≡ freeThen c f v d j
       goes n e t = bool-ext _ _ (λ u. and-i (not (eqb j f)) (freed j) (not-T (eqb j f) (ne→eqb j f n)) t) (λ u. rw (merged-free j h e) tt)
 
       only : j ≢ v → j ≢ d → T (freed j) → T (isFree (c j .state))
@@ -197,9 +192,9 @@ module _ (s : Shape) (im : Image) (w : Sound s im) (rec : Recovered s (blocksOf 
           ]
 
   -- The block taken after the merge is the lowest that is free by then.
-  pub merged-taken : taken s (blocksOf s merged) ≡ firstBelow (s .blocks) (λ j. not (eqb j f) && (isFree (c j .state) || eqb j v || eqb j d))
+  pub merged-taken : taken s (blocksOf s merged) ≡ firstBelow (s .blocks) (freeThen c f v d)
   unfolding taken
-  merged-taken = firstBelow-same (s .blocks) (λ j. isFree (blocksOf s merged j .state)) freeThen free-test
+  merged-taken = firstBelow-same (s .blocks) (λ j. isFree (blocksOf s merged j .state)) (freeThen c f v d) free-test
 
   -- It gets the number after the copy's.
   pub merged-number : newNumber s (blocksOf s merged) ≡ highest s c + 2

@@ -11,18 +11,16 @@ use Rattle.rules.specs.declared.shape.Shape.{Shape}
 use Rattle.rules.specs.declared.page.Page.{Page}
 use Rattle.rules.specs.declared.page.Page.the-variants.{Erased, Entry, Junk}
 use Rattle.rules.specs.Bytes.{all255, part, replaced}
-use Rattle.rules.specs.Spare.{highestNumber, numberIn, kindIn, addressIn, inTable, spareBytes}
+use Rattle.rules.specs.Spare.{numberLimit, numberIn, kindIn, addressIn, inTable, spareBytes}
 use Rattle.rules.specs.Shape.{pageNo}
 use Rattle.rules.specs.Page.{Image, pageBytes, pageSpare, erased, pageOf, pageAt, isErased, isEntry, numberOf, kindOf, addressOf}
 use Rattle.rules.specs.Steps.{Step, program, erase, stepDone, stepsDone}
-use Rattle.rules.specs.Facts.{Fits, Left, imageOf}
+use Rattle.rules.specs.Facts.{Fits}
 use Rattle.rules.proofs.Sizes.{block-within}
 use Rattle.laws.proofs.Tests.{tcase, true-is, false-is, and-l, and-i, cond-yes, cond-no, dec-lt}
-use Rattle.laws.proofs.Bytes.{all255-replicate, part-replicate, replaced-length}
-use Rattle.laws.proofs.Bytes.{part-replaced-same, part-replaced-inside, part-replaced-before, part-replaced-after}
+use Rattle.laws.proofs.Bytes.{all255-replicate, part-replicate, replaced-length, part-replaced-same, part-replaced-inside, part-replaced-before, part-replaced-after}
 use Rattle.laws.proofs.Shape.{pageNo-block, pageNo-away}
-use Rattle.laws.proofs.Spare.{Kind, InTable, inTable-facts}
-use Rattle.laws.proofs.Spare.{spareBytes-number, spareBytes-kind, spareBytes-address, spareBytes-inTable, spareBytes-not-255}
+use Rattle.laws.proofs.Spare.{Kind, InTable, inTable-facts, spareBytes-number, spareBytes-kind, spareBytes-address, spareBytes-inTable, spareBytes-not-255}
 
 -- ---- what a page says
 
@@ -56,7 +54,7 @@ pageOf-255 =
     (and-i (all255 (replicate 16 255)) (all255 (replicate 512 255)) (true-is _ (all255-replicate 16)) (true-is _ (all255-replicate 512)))
 
 -- a page programmed with number n, kind k and logical page a, whatever its data
-pub pageOf-spareBytes : (d : List ℕ) (n k a : ℕ) → 1 ≤ n → n ≤ highestNumber → Kind k → a < 65536 → pageOf d (spareBytes n k a) ≡ Entry n k a
+pub pageOf-spareBytes : (d : List ℕ) (n k a : ℕ) → 1 ≤ n → n ≤ numberLimit → Kind k → a < 65536 → pageOf d (spareBytes n k a) ≡ Entry n k a
 unfolding erased
 pageOf-spareBytes d n k a low high kind small =
     let t : List ℕ = spareBytes n k a in
@@ -249,12 +247,3 @@ stepsDone-append s [] ys im = refl
 stepsDone-append s (x ∷ xs) ys im = stepsDone-append s xs ys (stepDone s x im)
 
 -- ---- the two slices that an image is lent in
-
-pub left-image : {im : Image} {bytes spare : List ℕ} → Left im bytes spare → imageOf bytes spare ≡ im
-left-image {im} {bytes} {spare} h = ap (λ (x : List ℕ). imageOf x spare) (h .bytes-are) ∙ ap (λ (x : List ℕ). imageOf (im .bytes) x) (h .spare-are)
-
--- what f leaves of what is left
-pub left-then : {im : Image} {bytes spare bytes′ spare′ : List ℕ} (f : Image → Image) → Left im bytes spare
-    → Left (f (imageOf bytes spare)) bytes′ spare′
-    → Left (f im) bytes′ spare′
-left-then {im} {bytes} {spare} {bytes′} {spare′} f h k = subst (λ (x : Image). Left (f x) bytes′ spare′) (left-image h) k

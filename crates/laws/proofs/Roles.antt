@@ -4,17 +4,17 @@ use mathlib.Core.Logic.{_≢_, _⊎_, inl, inr}
 use mathlib.Core.Bool.{Bool, true, false, not, _&&_, cond}
 use Prim.Native.Nat.{ℕ, _+_, _≤_, _<_}
 use native.Mathlib.Omega.{arith}
-use lib.Dec.{T, ltb, eqb, leb→le, le→leb, ltb→lt, lt→ltb, eqb→eq, eqb-refl, T-not, not-T, nltb→le}
+use lib.Dec.{T, ltb, eqb, leb→le, le→leb, ltb→lt, lt→ltb, eqb→eq, eqb-refl, T-not, not-T}
 use Rattle.rules.specs.declared.shape.Shape.{Shape}
 use Rattle.rules.specs.declared.block.State.{State}
 use Rattle.rules.specs.declared.block.State.the-variants.{Bad, Free, Ill, Used}
 use Rattle.rules.specs.declared.block.Block.{Block}
 use Rattle.rules.specs.Below.{none, allBelow, countBelow, firstBelow}
 use Rattle.rules.specs.Spare.{logKind}
-use Rattle.rules.specs.Shape.{needed}
+use Rattle.rules.specs.Shape.{goodNeeded}
 use Rattle.rules.specs.WellFormed.{Blocks, notUsed, isGood, isFree, isIll, isUsed, noTwo, W5, isComplete, dataNumber, isData, isLive, W6, isObsolete, dataBlock, liveLog, liveLogs, W7, wellFormed}
 use Rattle.rules.specs.Steps.{taken, highest}
-use Rattle.rules.specs.Replies.{goodBlocks, tooFewGood, unrecovered}
+use Rattle.rules.specs.Replies.{goodBlocks, unrecovered}
 use Rattle.laws.proofs.Tests.{tcase, bool-ext, and-l, and-r, and-i, cond-yes, dec-lt, eq→eqb}
 use Rattle.laws.proofs.Below.{allBelow-at, allBelow-all, bit, bit-le, bit-one, bit-zero, sumBelow-le, sumBelow-add, sumBelow-ones, countBelow-sum, countBelow-places, highestBelow-ge, highestBelow-le, highestBelow-at, firstBelow-found, firstBelow-same}
 
@@ -453,7 +453,7 @@ module _ (s : Shape) (c : Blocks) where
       (allBelow-all (s .blocks) (λ j. not (isObsolete s c j)) (λ j h. not-T (isObsolete s c j) (f j)))
 
 -- "No answer stands for 'no free block': the rules always leave one."
-module _ (s : Shape) (c : Blocks) (w : WellFormed s c) (rec : Recovered s c) (enough : needed s ≤ goodBlocks s c) where
+module _ (s : Shape) (c : Blocks) (w : WellFormed s c) (rec : Recovered s c) (enough : goodNeeded s ≤ goodBlocks s c) where
   dataBlocks-few : countBelow (s .blocks) (isData s c) ≤ s .logical
   dataBlocks-few =
       omega (
@@ -496,9 +496,3 @@ module _ (s : Shape) (c : Blocks) (w : WellFormed s c) (rec : Recovered s c) (en
         | inl q ↦ (q .passes, q .below)
         | inr q ↦ absurd (no-room (q .fails))
       ]
-
--- the same, by the tests that the refusals make
-pub taken-free-tests : (s : Shape) (c : Blocks) → Records s c → T (wellFormed s c) → (T (unrecovered s c) → ⊥) → (T (tooFewGood s c) → ⊥)
-    → T (isFree (c (taken s c) .state)) × (taken s c < s .blocks)
-taken-free-tests s c r t f g =
-    taken-free s c (wellFormed-e s c r t) (recovered-e s c r f) (nltb→le (goodBlocks s c) (needed s) (not-T (tooFewGood s c) g))

@@ -4,8 +4,7 @@ use mathlib.Core.Bool.{Bool}
 use mathlib.Core.Logic.{_≢_, _⊎_, inl, inr, ⊎-elim}
 use mathlib.Core.List.{List, [], _∷_}
 use Prim.Native.Nat.{ℕ, _+_, _*_, _/_, _%_, _≤_, _<_}
-use native.Mathlib.Nat.{div-eq-of-lt, mod-eq-of-lt, mul-add-div-right, mul-add-mod-self-right, div-add-mod'}
-use native.Mathlib.Nat.{div-lt-iff-lt-mul, mod-lt, mul-le-mul-right, add-zero}
+use native.Mathlib.Nat.{div-eq-of-lt, mod-eq-of-lt, mul-add-div-right, mul-add-mod-self-right, div-add-mod', div-lt-iff-lt-mul, mod-lt, mul-le-mul-right, add-zero}
 use native.Mathlib.Omega.{arith}
 use lib.Dec.{T, leb, eqb, leb→le, le→leb, ltb→lt, lt→ltb, eqb→eq}
 use Rattle.rules.specs.declared.shape.Shape.{Shape}
@@ -99,9 +98,6 @@ module _ (s : Shape) where
       (dec-lt c b)
 
   module _ (l : Limits s) where
-    pub page-block-below : (p : ℕ) → p < s .blocks * s .pages → p / s .pages < s .blocks
-    page-block-below p h = div-lt-iff-lt-mul (positive l) .1 h
-
     pub page-place-below : (p : ℕ) → p % s .pages < s .pages
     page-place-below p = mod-lt p (positive l)
 

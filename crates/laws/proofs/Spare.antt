@@ -10,7 +10,7 @@ use borrow.Author.Tests.{ne-eqb}
 use lib.Dec.{T, leb, eqb, leb→le, le→leb, eqb→eq}
 use lib.ListN.{length, drop}
 use Rattle.rules.specs.Bytes.{all255}
-use Rattle.rules.specs.Spare.{highestNumber, logKind, copyKind, numberIn, kindIn, statusIn, addressIn, inTable, spareBytes}
+use Rattle.rules.specs.Spare.{numberLimit, logKind, copyKind, numberIn, kindIn, statusIn, addressIn, inTable, spareBytes}
 use Rattle.laws.proofs.Tests.{or-l, or-r, or-e, chain-each, each-chain, eq→eqb}
 
 -- ---- inTable
@@ -20,7 +20,7 @@ Kind k = (k ≡ logKind) ⊎ (k ≡ copyKind)
 
 pub record InTable (t : List ℕ) : Type 0 where
   pub number-low : 1 ≤ numberIn t
-  pub number-high : numberIn t ≤ highestNumber
+  pub number-high : numberIn t ≤ numberLimit
   pub kind : Kind (kindIn t)
   pub status : statusIn t ≡ 255
   pub rest : T (all255 (drop 8 t))
@@ -30,7 +30,7 @@ isKind k = eqb k logKind || eqb k copyKind
 
 -- its tests but the first
 tests : List ℕ → List Bool
-tests t = leb (numberIn t) highestNumber ∷ isKind (kindIn t) ∷ eqb (statusIn t) 255 ∷ all255 (drop 8 t) ∷ []
+tests t = leb (numberIn t) numberLimit ∷ isKind (kindIn t) ∷ eqb (statusIn t) 255 ∷ all255 (drop 8 t) ∷ []
 
 pub facts-inTable : (t : List ℕ) → InTable t → T (inTable t)
 unfolding inTable tests isKind
@@ -81,7 +81,7 @@ module _ (n k a : ℕ) where
   unfolding spareBytes
   spareBytes-address h = omega arith
 
-  pub spareBytes-inTable : 1 ≤ n → n ≤ highestNumber → Kind k → T (inTable (spareBytes n k a))
+  pub spareBytes-inTable : 1 ≤ n → n ≤ numberLimit → Kind k → T (inTable (spareBytes n k a))
   unfolding spareBytes all255
   spareBytes-inTable low high kind =
       let e : numberIn (spareBytes n k a) ≡ n = spareBytes-number (omega arith) in

@@ -13,19 +13,19 @@ use Rattle.rules.specs.declared.page.Page.the-variants.{Erased}
 use Rattle.rules.specs.declared.block.State.the-variants.{Free}
 use Rattle.rules.specs.declared.block.Block.{Block}
 use Rattle.rules.specs.Bytes.{all255}
-use Rattle.rules.specs.Spare.{highestNumber, addressIn, spareBytes, inTable}
+use Rattle.rules.specs.Spare.{numberLimit, addressIn, spareBytes, inTable}
 use Rattle.rules.specs.Shape.{pageNo}
 use Rattle.rules.specs.Page.{Image, pageBytes, pageSpare, erased, pageOf, pageAt, isErased}
-use Rattle.rules.specs.WellFormed.{notUsed, isGood, isFree, isUsed, blockAt, blocksOf}
+use Rattle.rules.specs.WellFormed.{notUsed, isGood, isFree, isUsed, isBad, blockAt, blocksOf}
 use Rattle.rules.specs.Steps.{Step, program, erase, stepDone}
 use Rattle.rules.specs.Facts.{Fits}
 use Rattle.laws.proofs.Tests.{tcase, false-is, dec-eq}
-use Rattle.laws.proofs.Shape.{pageNo-below, pageNo-same-block, pageNo-same-place}
+use Rattle.laws.proofs.Shape.{pageNo-below, pageNo-block, pageNo-same-block, pageNo-same-place}
 use Rattle.laws.proofs.Spare.{spareBytes-length, spareBytes-address, spareBytes-not-255}
 use Rattle.laws.proofs.Pages.{pageOf-entry, pageOf-junk, Programs, program-fits, program-page, program-other, erase-fits, erase-other}
 use Rattle.laws.proofs.Roles.{good-below, used-good, free-good}
-use Rattle.laws.proofs.Records.{blocksOf-at, blockAt-bad, blocksOf-records}
-use Rattle.laws.proofs.Blocks.{oneMore, Writable, Joins, blockAt-same, blocksOf-same, step-blockAt, erase-blockAt, program-blockAt, free-page, used-blank, ordered-offset, used-number}
+use Rattle.laws.proofs.Records.{blocksOf-at, blocksOf-records}
+use Rattle.laws.proofs.Blocks.{oneMore, Writable, Joins, isGood-good, blockAt-same, blocksOf-same, step-blockAt, erase-blockAt, program-blockAt, free-page, used-blank, ordered-offset, used-number}
 use Rattle.laws.proofs.Change.{changed, changed-same, changed-other}
 use Rattle.laws.proofs.Content.{SamePages, offsetAt}
 use Rattle.laws.proofs.Along.{Allowed}
@@ -51,10 +51,13 @@ module _ (s : Shape) (im : Image) (w : Fits s im) (b : ℕ) where
   pub as-read : (Q : Block → Type 0) → b < s .blocks → Q (blocksOf s im b) → Q (blockAt s im b)
   as-read Q h = subst Q (blocksOf-at s im b h)
 
-  pub used-numbers : T (isUsed (blocksOf s im b .state)) → (1 ≤ blocksOf s im b .number) × (blocksOf s im b .number ≤ highestNumber)
+  good-not-bad : T (isGood (blocksOf s im b .state)) → T (isBad s im b) → ⊥
+  good-not-bad g = isGood-good s im b (as-read (λ x. T (isGood (x .state))) (good-in g) g)
+
+  pub used-numbers : T (isUsed (blocksOf s im b .state)) → (1 ≤ blocksOf s im b .number) × (blocksOf s im b .number ≤ numberLimit)
   used-numbers t =
       let h : b < s .blocks = good-in (used-good (blocksOf s im b .state) t) in
-      subst (λ (x : Block). (1 ≤ x .number) × (x .number ≤ highestNumber)) (sym (blocksOf-at s im b h))
+      subst (λ (x : Block). (1 ≤ x .number) × (x .number ≤ numberLimit)) (sym (blocksOf-at s im b h))
       (used-number s im (omega (arith, w .limits .pages-low)) b (as-read (λ x. T (isUsed (x .state))) h t))
 
   -- page i of a used block that is in order has offset i
@@ -97,7 +100,7 @@ erase-done s im w b g =
       fits = erase-fits s im w b h;
       blocks = blocks-changed s im (stepDone s (erase b) im) b (notUsed Free) h (erase-blockAt s im w b h) (step-blockAt s im w (erase b) h);
       others = λ j n i k. let q = erase-other s im w b h j i n k in (q .bytes-are, q .spare-are);
-      allowed = record { below = h; good = λ t. subst (λ (x : Block). T (isGood (x .state))) (blocksOf-at s im b h ∙ blockAt-bad s im b t) g };
+      allowed = record { below = h; good = good-not-bad s im w b g };
     }
   where
     h : b < s .blocks
@@ -125,12 +128,11 @@ module _ (s : Shape) (im : Image) (w : Fits s im) (b n k a : ℕ) (d : List ℕ)
   abbrev im′ : Image
   im′ = stepDone s (nextStep s im b n k a d) im
 
+  good : T (isGood (blocksOf s im b .state))
+  good = elim (j .own) [ inl t ↦ free-good (blocksOf s im b .state) t | inr t ↦ used-good (blocksOf s im b .state) (t .0) ]
+
   hb : b < s .blocks
-  hb =
-      elim (j .own) [
-        | inl t ↦ good-in s im w b (free-good (blocksOf s im b .state) t)
-        | inr t ↦ good-in s im w b (used-good (blocksOf s im b .state) (t .0))
-      ]
+  hb = good-in s im w b good
 
   page : Programs s (pageNo s b f) d (spareBytes n k a)
   page = record { page-in = pageNo-below s b f hb (j .room); bytes-long = long; spare-long = spareBytes-length n k a }
@@ -164,6 +166,7 @@ module _ (s : Shape) (im : Image) (w : Fits s im) (b n k a : ℕ) (d : List ℕ)
         allowed = record {
           page = page;
           erased = pageAt-erased im (pageNo s b f) blank;
+          good = λ t. good-not-bad s im w b good (subst (λ (i : ℕ). T (isBad s im i)) (pageNo-block s b f (j .room)) t);
           programmed =
               false-is (all255 (spareBytes n k a)) (spareBytes-not-255 n k a (e .kind));
         };

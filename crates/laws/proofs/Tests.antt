@@ -1,12 +1,12 @@
 -- Tests as facts: T b says that the test b passes. Assumes nothing.
-use mathlib.Core.Path.{_≡_, refl, sym, ap, subst}
+use mathlib.Core.Path.{_≡_, refl, sym, ap, _∙_, subst}
 use mathlib.Core.Logic.{_≢_, _⊎_, inl, inr}
 use mathlib.Core.Bool.{Bool, true, false, not, _&&_, _||_, cond}
 use mathlib.Core.List.{List, [], _∷_}
 use Prim.Native.Nat.{ℕ, _≤_, _<_}
 use native.Mathlib.Omega.{arith}
 use native.Mathlib.Decide.{ℕ-discrete, decLt}
-use lib.Dec.{T, leb, ltb, eqb, leb→le, ltb→lt, eqb-refl, eqb→eq}
+use lib.Dec.{T, ltb, eqb, ltb→lt, eqb-refl, eqb→eq}
 
 -- ---- a test passes or fails
 
@@ -66,6 +66,13 @@ pub or-e : (a b : Bool) → T (a || b) → T a ⊎ T b
 or-e true b t = inl tt
 or-e false b t = inr t
 
+-- what a call of `and` or `or` answers, where its two tests answer x and y
+pub and-is : {a b x y r : Bool} → r ≡ (a && b) → a ≡ x → b ≡ y → r ≡ (x && y)
+and-is {a} {y = y} e f g = e ∙ ap (λ (t : Bool). a && t) g ∙ ap (λ (t : Bool). t && y) f
+
+pub or-is : {a b x y r : Bool} → r ≡ (a || b) → a ≡ x → b ≡ y → r ≡ (x || y)
+or-is {a} {y = y} e f g = e ∙ ap (λ (t : Bool). a || t) g ∙ ap (λ (t : Bool). t || y) f
+
 -- ---- a choice
 
 module _ {A : Type 0} where
@@ -98,9 +105,6 @@ dec-lt m n = go (decLt m n)
 
 pub eq→eqb : (m n : ℕ) → m ≡ n → T (eqb m n)
 eq→eqb m n e = subst (λ (k : ℕ). T (eqb m k)) e (eqb-refl m)
-
-pub nle→leb : (m n : ℕ) → n < m → T (leb m n) → ⊥
-nle→leb m n h t = let k : m ≤ n = leb→le m n t in omega arith
 
 pub nlt→ltb : (m n : ℕ) → n ≤ m → T (ltb m n) → ⊥
 nlt→ltb m n h t = let k : m < n = ltb→lt m n t in omega arith

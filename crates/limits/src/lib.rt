@@ -1,1 +1,1 @@
-// The limits of demand 3 are sharp: histories computed, in proofs/. No code.
+// Histories that come near the limits of demand 3, computed: see proofs/. No code.

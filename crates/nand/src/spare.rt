@@ -5,8 +5,8 @@ ghost use lib.ListN.{length};
 ghost use Rattle.rules.specs.Spare.{numberIn, addressIn, inTable, spareBytes};
 use super::bytes::all_255;
 use rules::page::COPY;
-use rules::page::HIGHEST;
 use rules::page::LOG;
+use rules::page::NUMBER_LIMIT;
 use rules::test;
 
 fn wide32(x: u8) -> u32
@@ -42,7 +42,7 @@ pub fn in_table(t: &[u8]) -> bool
 {
     let n = number_in(t);
     let k = t[4];
-    let number = test::and(1 <= n, n <= HIGHEST);
+    let number = test::and(1 <= n, n <= NUMBER_LIMIT);
     let kind = test::or(k == LOG, k == COPY);
     let status = t[5] == 255;
     let rest = all_255(&t[8..16]);

@@ -1,22 +1,21 @@
 -- Laws of the passes over the records. Assumes nothing.
-use mathlib.Core.Path.{_≡_, refl, sym, ap, _∙_}
+use mathlib.Core.Path.{_≡_, refl, ap, _∙_}
 use mathlib.Core.Bool.{Bool, true, false, not, _&&_, _||_, cond}
 use mathlib.Core.List.{List}
-use Prim.Native.Nat.{ℕ, zero, suc, _+_, _≤_, max}
-use native.Mathlib.Numerals.{add-one}
+use Prim.Native.Nat.{ℕ, _+_, _≤_, max}
 use native.Mathlib.Omega.{arith}
-use lib.Dec.{leb, ltb, eqb}
+use lib.Dec.{ltb, eqb}
 use lib.ListN.{length, List·getD-eq-default}
 use Rattle.rules.specs.declared.shape.Shape.{Shape}
 use Rattle.rules.specs.declared.block.State.the-variants.{Bad}
 use Rattle.rules.specs.declared.block.Block.{Block}
-use Rattle.rules.specs.Below.{none, isNone, orNone, lowerOf, allBelow, countBelow, highestBelow, firstBelow, lowestBelow}
-use Rattle.rules.specs.WellFormed.{Blocks, blocksIn, notUsed, isGood, isFree, isIll, isUsed, dataNumber, isData, isLive, isObsolete, W5, W6, W7, liveLogs, wellFormed}
+use Rattle.rules.specs.Below.{none, isNone, orNone, allBelow, countBelow, highestBelow, firstBelow, lowestBelow}
+use Rattle.rules.specs.WellFormed.{Blocks, blocksIn, notUsed, isGood, isFree, isIll, dataNumber, isData, isLive, isObsolete}
 use Rattle.laws.proofs.Arrays.{stored-one}
-use Rattle.laws.proofs.Below.{allBelow-same, countBelow-most}
+use Rattle.laws.proofs.Below.{countBelow-most, allBelow-more, countBelow-more, highestBelow-more, firstBelow-more, lowestBelow-more}
 use Rattle.roles.specs.declared.census.Census.{Census}
 use Rattle.roles.specs.declared.seats.Seats.{Seats}
-use Rattle.roles.specs.Passes.{Numbers, isDataBy, isLiveBy, isObsoleteBy, completeNumber, eldestTo, censusTo, seatsTo, apart}
+use Rattle.roles.specs.Passes.{Numbers, isDataBy, isLiveBy, isObsoleteBy, completeNumber, eldestTo, censusTo, seatsTo}
 use Rattle.roles.specs.Counted.{isEldest, counted}
 
 -- ---- a record of the array
@@ -26,28 +25,6 @@ use Rattle.roles.specs.Counted.{isEldest, counted}
 -- no block has the record of a bad one
 pub blocksIn-none : (list : List Block) → length list ≡ 64 → blocksIn list none ≡ notUsed Bad
 blocksIn-none list e = List·getD-eq-default list (notUsed Bad) (omega arith)
-
--- ---- one more, as a loop counts
-
-pub allBelow-more : (n : ℕ) (p : ℕ → Bool) → allBelow (n + 1) p ≡ (allBelow n p && p n)
-unfolding allBelow
-allBelow-more n p = ap (λ (m : ℕ). allBelow m p) (add-one n)
-
-pub countBelow-more : (n : ℕ) (p : ℕ → Bool) → countBelow (n + 1) p ≡ countBelow n p + cond (p n) 1 0
-unfolding countBelow
-countBelow-more n p = ap (λ (m : ℕ). countBelow m p) (add-one n)
-
-pub highestBelow-more : (n : ℕ) (f : ℕ → ℕ) → highestBelow (n + 1) f ≡ max (highestBelow n f) (f n)
-unfolding highestBelow
-highestBelow-more n f = ap (λ (m : ℕ). highestBelow m f) (add-one n)
-
-pub firstBelow-more : (n : ℕ) (p : ℕ → Bool) → firstBelow (n + 1) p ≡ orNone (firstBelow n p) (cond (p n) n none)
-unfolding firstBelow
-firstBelow-more n p = ap (λ (m : ℕ). firstBelow m p) (add-one n)
-
-lowestBelow-more : (n : ℕ) (p : ℕ → Bool) (f : ℕ → ℕ) → lowestBelow (n + 1) p f ≡ cond (p n) (lowerOf f (lowestBelow n p f) n) (lowestBelow n p f)
-unfolding lowestBelow
-lowestBelow-more n p f = ap (λ (m : ℕ). lowestBelow m p f) (add-one n)
 
 -- ---- data numbers
 
@@ -126,28 +103,11 @@ module _ (s : Shape) (c : Blocks) where
 
   -- ---- the blocks of a logical block
 
-  pub seatsTo-none : (l : ℕ) → _≡_ {A = Seats} (record { base = none; log = none }) (seatsTo s c l 0)
-  unfolding seatsTo firstBelow
-  seatsTo-none l = refl
-
   pub seatsTo-is : (l j : ℕ) {b g : ℕ} → b ≡ firstBelow j (λ i. isData s c i && eqb (c i .logical) l)
       → g ≡ firstBelow j (λ i. isLive s c i && eqb (c i .logical) l)
       → _≡_ {A = Seats} (record { base = b; log = g }) (seatsTo s c l j)
   unfolding seatsTo
   seatsTo-is l j e f = cc
-
--- one turn of a search for the first that passes
-pub first-turn : (p : ℕ → Bool) (j : ℕ) {t r : ℕ} {b : Bool} → t ≡ firstBelow j p → b ≡ p j → r ≡ orNone t (cond b j none) → r ≡ firstBelow (j + 1) p
-first-turn p j {t} {r} {b} e f g =
-    g ∙ ap (λ (u : Bool). orNone t (cond u j none)) f ∙ ap (λ (u : ℕ). orNone u (cond (p j) j none)) e ∙ sym (firstBelow-more j p)
-
--- and of a test of all
-pub all-turn : (p : ℕ → Bool) (j : ℕ) {t r b : Bool} → t ≡ allBelow j p → b ≡ p j → r ≡ (t && b) → r ≡ allBelow (j + 1) p
-all-turn p j {t} {r} {b} e f g = g ∙ ap (λ (u : Bool). t && u) f ∙ ap (λ (u : Bool). u && p j) e ∙ sym (allBelow-more j p)
-
--- and of a maximum
-pub highest-turn : (f : ℕ → ℕ) (j : ℕ) {t x r : ℕ} → t ≡ highestBelow j f → x ≡ f j → r ≡ max t x → r ≡ highestBelow (j + 1) f
-highest-turn f j {t} {x} {r} e g h = h ∙ ap (max t) g ∙ ap (λ (u : ℕ). max u (f j)) e ∙ sym (highestBelow-more j f)
 
 -- of logical block l
 pub of-logical : (c : Blocks) (j l : ℕ) (p : ℕ → Bool) {b r : Bool} → b ≡ p j → r ≡ (b && eqb (c j .logical) l) → r ≡ (p j && eqb (c j .logical) l)
@@ -177,62 +137,8 @@ pub counted-turn : (s : Shape) (c : Blocks) (j : ℕ) {t r : Census} {d : ℕ} �
 counted-turn s c j {t} {r} {d} number e f =
     f ∙ ap (λ (u : Census). counted s u j (c j) d) e ∙ ap (counted s (censusTo s c j) j (c j)) number ∙ censusTo-more s c j
 
-pub firstBelow-zero : (p : ℕ → Bool) → none ≡ firstBelow 0 p
-unfolding firstBelow
-firstBelow-zero p = refl
-
-pub allBelow-zero : (p : ℕ → Bool) → true ≡ allBelow 0 p
-unfolding allBelow
-allBelow-zero p = refl
-
--- ---- W5 and W6
-
-pub apart-is : (s : Shape) (c : Blocks) (i j : ℕ) {d e : ℕ} {one two r : Bool} → d ≡ dataNumber s c (c i .logical) → e ≡ dataNumber s c (c j .logical)
-    → one ≡ (isUsed (c i .state) && isUsed (c j .state) && eqb (c i .number) (c j .number))
-    → two ≡ (isLiveBy s (c i) d && isLiveBy s (c j) e && eqb (c i .logical) (c j .logical))
-    → r ≡ (not one && not two) → r ≡ apart s c i j
-unfolding apart
-apart-is s c i j {d} {e} {one} {two} {r} hd he a b g =
-    let li : isLiveBy s (c i) d ≡ isLive s c i = isLive-by s c i hd refl in
-    let lj : isLiveBy s (c j) e ≡ isLive s c j = isLive-by s c j he refl in
-    cc
-
--- two tests of all are one
-allBelow-and : (n : ℕ) (p q : ℕ → Bool) → (allBelow n p && allBelow n q) ≡ allBelow n (λ j. p j && q j)
-unfolding allBelow
-allBelow-and zero p q = refl
-allBelow-and (suc n) p q = exchange (allBelow n p) (p n) (allBelow n q) (q n) ∙ ap (λ (t : Bool). t && (p n && q n)) (allBelow-and n p q)
-  where
-    exchange : (a b c d : Bool) → ((a && b) && (c && d)) ≡ ((a && c) && (b && d))
-    exchange true true c d = refl
-    exchange true false true d = refl
-    exchange true false false d = refl
-    exchange false b c d = refl
-
-pub apart-all : (s : Shape) (c : Blocks) → allBelow (s .blocks) (λ i. allBelow i (apart s c i)) ≡ (W5 s c && W6 s c)
-unfolding apart W5 W6
-apart-all s c =
-    let used : ℕ → ℕ → Bool = λ i j. not (isUsed (c i .state) && isUsed (c j .state) && eqb (c i .number) (c j .number)) in
-    let live : ℕ → ℕ → Bool = λ i j. not (isLive s c i && isLive s c j && eqb (c i .logical) (c j .logical)) in
-    sym (allBelow-and (s .blocks) (λ i. allBelow i (used i)) (λ i. allBelow i (live i))
-    ∙ allBelow-same (s .blocks) (λ i. allBelow i (used i) && allBelow i (live i)) (λ i. allBelow i (λ j. used i j && live i j))
-    (λ i h. allBelow-and i (used i) (live i)))
-
 -- There is one array of 64 numbers with the data numbers.
 pub numbers-one : {s : Shape} {c : Blocks} {ds ds′ : List ℕ} → length ds ≡ 64 → length ds′ ≡ 64 → Numbers s c ds → Numbers s c ds′ → ds ≡ ds′
 numbers-one {s} {c} l l′ n n′ =
     stored-one (λ j. dataNumber s c (c j .logical)) 0 (s .blocks)
     (record { long = l; stored = n .at; rest = n .past }) (record { long = l′; stored = n′ .at; rest = n′ .past })
-
-pub wellFormed-by : (s : Shape) (c : Blocks) {t : Census} {pairs some r : Bool} → t ≡ censusTo s c (s .blocks) → pairs ≡ (W5 s c && W6 s c)
-    → some ≡ (t .sound && pairs) → r ≡ (some && leb (t .live) (s .logs)) → r ≡ wellFormed s c
-unfolding censusTo wellFormed W7 liveLogs
-wellFormed-by s c {t} {pairs} {some} {r} e f g h =
-    let sound : Bool = allBelow (s .blocks) (λ j. not (isIll (c j .state))) in
-    h ∙ ap (λ (b : Bool). b && leb (t .live) (s .logs)) (g ∙ ap (λ (b : Bool). t .sound && b) f)
-    ∙ ap (λ (u : Census). u .sound && (W5 s c && W6 s c) && leb (u .live) (s .logs)) e
-    ∙ ap (λ (b : Bool). b && leb (countBelow (s .blocks) (isLive s c)) (s .logs)) (and-and sound (W5 s c) (W6 s c))
-  where
-    and-and : (a b c : Bool) → (a && (b && c)) ≡ (a && b && c)
-    and-and true b c = refl
-    and-and false b c = refl

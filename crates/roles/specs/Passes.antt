@@ -5,9 +5,10 @@ use mathlib.Core.List.{List}
 use Prim.Native.Nat.{ℕ, _<_, _≤_}
 use lib.Dec.{ltb, eqb}
 use lib.ListN.{getD}
+use mathlib.Core.Logic.{_⊎_}
 use Rattle.rules.specs.declared.shape.Shape.{Shape}
 use Rattle.rules.specs.declared.block.Block.{Block}
-use Rattle.rules.specs.Below.{allBelow, countBelow, highestBelow, firstBelow, lowestBelow}
+use Rattle.rules.specs.Below.{allBelow, countBelow, highestBelow, firstBelow, lowestBelow, none}
 use Rattle.rules.specs.Spare.{logKind}
 use Rattle.rules.specs.WellFormed.{Blocks, isGood, isFree, isIll, isUsed, isComplete, dataNumber, isData, isLive, isObsolete}
 use Rattle.roles.specs.declared.census.Census.{Census}
@@ -66,9 +67,6 @@ seatsTo s c l n =
 abbrev pub seats : Shape → Blocks → ℕ → Seats
 seats s c l = seatsTo s c l (s .blocks)
 
--- ---- W5 and W6 of two blocks
-
-unfoldable pub apart : Shape → Blocks → ℕ → ℕ → Bool
-apart s c i j =
-    not (isUsed (c i .state) && isUsed (c j .state) && eqb (c i .number) (c j .number))
-    && not (isLive s c i && isLive s c j && eqb (c i .logical) (c j .logical))
+-- as each of the two is: a block of the card, or none
+abbrev pub BlockOrNone : Shape → ℕ → Type 0
+BlockOrNone s b = (b < s .blocks) ⊎ (b ≡ none)

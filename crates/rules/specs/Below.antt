@@ -11,9 +11,9 @@ none = 65535
 abbrev pub isNone : ℕ → Bool
 isNone b = eqb b none
 
--- b, where there is such a block
-abbrev pub found : ℕ → List ℕ
-found b = cond (isNone b) [] (b ∷ [])
+-- "if any": block b alone, or no block
+abbrev pub ifAny : ℕ → List ℕ
+ifAny b = cond (isNone b) [] (b ∷ [])
 
 unfoldable pub allBelow : ℕ → (ℕ → Bool) → Bool
 allBelow zero p = true

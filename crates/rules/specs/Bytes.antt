@@ -9,6 +9,7 @@ unfoldable pub all255 : List ℕ → Bool
 all255 [] = true
 all255 (x ∷ xs) = eqb x 255 && all255 xs
 
+-- byte i, 0 past the end
 abbrev pub byte : List ℕ → ℕ → ℕ
 byte xs i = getD xs i 0
 

@@ -1,4 +1,4 @@
--- Facts that the contracts of the code ask of a caller, or leave him. Assumes nothing.
+-- Facts that the contracts of the code ask of a caller, or give him. Assumes nothing.
 use mathlib.Core.Path.{_≡_}
 use mathlib.Core.List.{List}
 use Prim.Native.Nat.{ℕ, _*_, _≤_}

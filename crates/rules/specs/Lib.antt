@@ -1,4 +1,5 @@
--- Document 01 as definitions, section by section. Below and Bytes are what they are made of.
+-- Document 01 as definitions, section by section. Below and Bytes are what they are made of; Facts is what contracts of the code ask, and no
+-- part of document 01.
 pub mod Below
 pub mod Bytes
 pub mod Shape

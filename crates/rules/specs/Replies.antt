@@ -10,8 +10,8 @@ use Rattle.rules.specs.declared.place.Place.the-variants.{At, Nowhere}
 use Rattle.rules.specs.declared.answer.Answer.{Answer}
 use Rattle.rules.specs.declared.answer.Answer.the-variants.{Done, Refused, Cut}
 use Rattle.rules.specs.Below.{allBelow, countBelow}
-use Rattle.rules.specs.Spare.{highestNumber}
-use Rattle.rules.specs.Shape.{shapeOf, withinLimits, blockOf, inRange, needed}
+use Rattle.rules.specs.Spare.{numberLimit}
+use Rattle.rules.specs.Shape.{shapeOf, withinLimits, blockOf, inRange, goodNeeded}
 use Rattle.rules.specs.Page.{Image, pageBytes}
 use Rattle.rules.specs.WellFormed.{Blocks, blocksOf, isGood, isObsolete, dataBlock, liveLog, wellFormed}
 use Rattle.rules.specs.Content.{holder, bytesAt}
@@ -47,7 +47,7 @@ outsideLimits s im = not (withinLimits s (length (im .bytes)) (length (im .spare
 
 -- 4: fewer good blocks than L + K + 1
 abbrev pub tooFewGood : Shape → Blocks → Bool
-tooFewGood s c = ltb (goodBlocks s c) (needed s)
+tooFewGood s c = ltb (goodBlocks s c) (goodNeeded s)
 
 -- 6: an obsolete block exists
 abbrev pub unrecovered : Shape → Blocks → Bool
@@ -55,7 +55,7 @@ unrecovered s c = not (allBelow (s .blocks) (λ j. not (isObsolete s c j)))
 
 -- 7: highest number plus new numbers needed (0, 1 or 2) above 4,294,967,294
 abbrev pub outOfNumbers : Shape → Blocks → ℕ → Bool
-outOfNumbers s c l = ltb highestNumber (highest s c + numbersNeeded (writeCase s c l))
+outOfNumbers s c l = ltb numberLimit (highest s c + numbersNeeded (writeCase s c l))
 
 unfoldable pub formatRefusal : Shape → Image → Blocks → ℕ
 formatRefusal s im c =
@@ -104,7 +104,7 @@ pub record Reply : Type 0 where
   pub answer : Answer
   pub steps : List Step
 
--- The steps done are the first cut of the list, or all if there are fewer; 8: cut number below the list's length.
+-- The steps done are the first `cut` of the list, or all if there are fewer; the answer is 8 where cut is below the list's length, else 0.
 abbrev pub carriedOut : ℕ → List Step → Reply
 carriedOut cut ts =
     let ts′ : List Step = take cut ts in
@@ -114,7 +114,7 @@ carriedOut cut ts =
 abbrev pub refusedBy : ℕ → Reply
 refusedBy n = record { answer = Refused n; steps = [] }
 
--- by the refusal: 0 for none
+-- x, unless refusal n applies; 0 for none
 abbrev pub unless : {A : Type 0} → ℕ → A → A → A
 unless zero refused x = x
 unless (suc n) refused x = refused
@@ -152,7 +152,8 @@ unfoldable pub tableOf : Shape → Blocks → ℕ → List ℕ
 tableOf s c zero = []
 tableOf s c (suc l) = tableOf s c l ++ (dataBlock s c l ∷ liveLog s c l ∷ [])
 
--- the table left: filled where the answer is 0, else as it was
+-- the table left: filled where the answer is 0, else as it was. It is that of the records before the erases; the image left has the same
+-- (TableOfTheImageLeft of crates/history).
 unfoldable pub tableLeft : Shape → Image → List ℕ → ℕ → List ℕ
 tableLeft s im old cut = unless (number (powerUpReply s im (length old) cut .answer)) old (tableOf s (blocksOf s im) (s .logical))
 

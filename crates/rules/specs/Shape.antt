@@ -36,6 +36,6 @@ logicalPage s l o = l * s .pages + o
 abbrev pub inRange : Shape → ℕ → Bool
 inRange s a = ltb a (s .logical * s .pages)
 
--- the good blocks that a card must have
-abbrev pub needed : Shape → ℕ
-needed s = s .logical + s .logs + 1
+-- the good blocks that a card must have: L + K + 1
+abbrev pub goodNeeded : Shape → ℕ
+goodNeeded s = s .logical + s .logs + 1

@@ -13,8 +13,9 @@ use lib.Dec.{leb, eqb}
 use lib.ListN.{drop, replicate}
 use Rattle.rules.specs.Bytes.{all255, byte}
 
-abbrev pub highestNumber : ℕ
-highestNumber = 4294967294
+-- no sequence number is above this
+abbrev pub numberLimit : ℕ
+numberLimit = 4294967294
 
 abbrev pub logKind : ℕ
 logKind = 240
@@ -37,7 +38,7 @@ addressIn t = byte t 6 + byte t 7 * 256
 -- the bytes of the table
 unfoldable pub inTable : List ℕ → Bool
 inTable t =
-    leb 1 (numberIn t) && leb (numberIn t) highestNumber
+    leb 1 (numberIn t) && leb (numberIn t) numberLimit
     && (eqb (kindIn t) logKind || eqb (kindIn t) copyKind)
     && eqb (statusIn t) 255
     && all255 (drop 8 t)

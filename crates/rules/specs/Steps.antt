@@ -7,7 +7,7 @@ use Prim.Native.Nat.{ℕ, suc, _+_, _*_}
 use lib.Dec.{ltb}
 use lib.ListN.{replicate}
 use Rattle.rules.specs.declared.shape.Shape.{Shape}
-use Rattle.rules.specs.Below.{isNone, found, highestBelow, firstBelow, lowestBelow, pickBelow, listBelow}
+use Rattle.rules.specs.Below.{isNone, ifAny, highestBelow, firstBelow, lowestBelow, pickBelow, listBelow}
 use Rattle.rules.specs.Bytes.{replaced}
 use Rattle.rules.specs.Spare.{logKind, copyKind, spareBytes}
 use Rattle.rules.specs.Shape.{pageNo, blockOf, logicalPage}
@@ -53,6 +53,7 @@ erases (erase b ∷ ts) = suc (erases ts)
 unfoldable pub taken : Shape → Blocks → ℕ
 taken s c = firstBelow (s .blocks) (λ j. isFree (c j .state))
 
+-- the highest number in the image, 0 if none
 unfoldable pub highest : Shape → Blocks → ℕ
 highest s c = highestBelow (s .blocks) (λ j. c j .number)
 
@@ -77,7 +78,7 @@ copies s im c l =
 
 -- .. erase the log block; erase the data block, if any.
 unfoldable pub mergeList : Shape → Image → Blocks → ℕ → List Step
-mergeList s im c l = copies s im c l ++ map erase (found (liveLog s c l) ++ found (dataBlock s c l))
+mergeList s im c l = copies s im c l ++ map erase (ifAny (liveLog s c l) ++ ifAny (dataBlock s c l))
 
 -- the logical block of the live log block with the lowest sequence number
 unfoldable pub victim : Shape → Blocks → ℕ
@@ -91,37 +92,39 @@ pub data Case : Type 0 where
   room : Case
   -- l has none, and fewer than K log blocks are live
   fresh : Case
-  -- l has a full one, or none while K log blocks are live: merge this logical block first
-  full : ℕ → Case
+  -- merge this logical block first: l itself, whose live log block is full; or, where l has none and K are live, that of the oldest
+  merging : ℕ → Case
 
 unfoldable pub writeCase : Shape → Blocks → ℕ → Case
 writeCase s c l =
     cond (isNone (liveLog s c l))
-    (cond (ltb (liveLogs s c) (s .logs)) fresh (full (victim s c)))
-    (cond (ltb (c (liveLog s c l) .filled) (s .pages)) room (full l))
+    (cond (ltb (liveLogs s c) (s .logs)) fresh (merging (victim s c)))
+    (cond (ltb (c (liveLog s c l) .filled) (s .pages)) room (merging l))
 
 -- new numbers needed: 0, 1 or 2
 abbrev pub numbersNeeded : Case → ℕ
 numbersNeeded room = 0
 numbersNeeded fresh = 1
-numbersNeeded (full l) = 2
+numbersNeeded (merging l) = 2
 
 -- the steps before its own program
 abbrev pub mergeFirst : Shape → Image → Blocks → Case → List Step
 mergeFirst s im c room = []
 mergeFirst s im c fresh = []
-mergeFirst s im c (full l) = mergeList s im c l
+mergeFirst s im c (merging l) = mergeList s im c l
 
--- With im and c as they are by then: the live log block of l if it has room; else take a block as log.
+-- From here on im and c are the image and the records after that merge, if there was one.
+--
+-- the block that gets the page: the live log block of l if it has room, else the block taken as log
 abbrev pub logBlock : Shape → Blocks → Case → ℕ → ℕ
 logBlock s c room l = liveLog s c l
 logBlock s c fresh l = taken s c
-logBlock s c (full m) l = taken s c
+logBlock s c (merging m) l = taken s c
 
 abbrev pub logNumber : Shape → Blocks → Case → ℕ → ℕ
 logNumber s c room l = c (liveLog s c l) .number
 logNumber s c fresh l = newNumber s c
-logNumber s c (full m) l = newNumber s c
+logNumber s c (merging m) l = newNumber s c
 
 -- Program its next page, which is page 0 of a block just taken.
 unfoldable pub ownStep : Shape → Blocks → Case → ℕ → List ℕ → Step
@@ -133,7 +136,7 @@ ownStep s c k a d =
 unfoldable pub eraseAfter : Shape → Image → Blocks → Case → ℕ → List ℕ → List ℕ
 eraseAfter s im c k a d =
     cond (isComplete s (blockAt s (stepDone s (ownStep s c k a d) im) (logBlock s c k (blockOf s a))))
-    (found (dataBlock s c (blockOf s a)))
+    (ifAny (dataBlock s c (blockOf s a)))
     []
 
 unfoldable pub ownList : Shape → Image → Blocks → Case → ℕ → List ℕ → List Step

@@ -49,6 +49,32 @@ W1to4 s g =
     && allBelow (s .pages) (W3 s g)
     && allBelow (s .pages) (W4 s g)
 
+-- ---- the state of a block
+
+abbrev pub isGood : State → Bool
+isGood Bad = false
+isGood Free = true
+isGood Ill = true
+isGood Used = true
+
+abbrev pub isFree : State → Bool
+isFree Bad = false
+isFree Free = true
+isFree Ill = false
+isFree Used = false
+
+abbrev pub isIll : State → Bool
+isIll Bad = false
+isIll Free = false
+isIll Ill = true
+isIll Used = false
+
+abbrev pub isUsed : State → Bool
+isUsed Bad = false
+isUsed Free = false
+isUsed Ill = false
+isUsed Used = true
+
 -- ---- the record of a block
 
 abbrev pub notUsed : State → Block
@@ -105,30 +131,6 @@ unfoldable pub blocksOf : Shape → Image → Blocks
 blocksOf s im =
     let read : List Block = listBelow (s .blocks) (blockAt s im) in
     blocksIn read
-
-abbrev pub isGood : State → Bool
-isGood Bad = false
-isGood Free = true
-isGood Ill = true
-isGood Used = true
-
-abbrev pub isFree : State → Bool
-isFree Bad = false
-isFree Free = true
-isFree Ill = false
-isFree Used = false
-
-abbrev pub isIll : State → Bool
-isIll Bad = false
-isIll Free = false
-isIll Ill = true
-isIll Used = false
-
-abbrev pub isUsed : State → Bool
-isUsed Bad = false
-isUsed Free = false
-isUsed Ill = false
-isUsed Used = true
 
 -- ---- W5
 

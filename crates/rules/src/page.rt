@@ -13,5 +13,5 @@ pub const LOG: u8 = 240;
 
 pub const COPY: u8 = 15;
 
-// The highest sequence number.
-pub const HIGHEST: u32 = 4294967294;
+// No sequence number is above this.
+pub const NUMBER_LIMIT: u32 = 4294967294;

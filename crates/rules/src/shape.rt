@@ -1,7 +1,7 @@
 ghost use mathlib.Core.Path.{_≡_};
 ghost use Prim.Native.Nat.{_*_, _/_, _≤_, _<_};
 ghost use lib.Dec.{ltb};
-ghost use Rattle.rules.specs.Shape.{shapeOf, withinLimits, pageNo, inRange, needed};
+ghost use Rattle.rules.specs.Shape.{shapeOf, withinLimits, pageNo, inRange, goodNeeded};
 ghost use Rattle.rules.specs.Facts.{Limits};
 
 // The shape of a card is four numbers.
@@ -123,7 +123,7 @@ impl Shape {
 
     // Whether so many good blocks are fewer than L + K + 1, for any L and K: the sum itself might not fit.
     pub fn short_of(self, good: usize) -> bool
-        ensures { λ r. ⌜ r ≡ ltb good (needed self) ⌝ }
+        ensures { λ r. ⌜ r ≡ ltb good (goodNeeded self) ⌝ }
     {
         let logical = self.logical;
         if good < logical {

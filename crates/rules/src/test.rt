@@ -1,4 +1,4 @@
-// Tests without a branch: what they say is still known where branches meet.
+// And and or as calls: what they say is one fact for the caller's proof, where && and || would split it in two.
 ghost use mathlib.Core.Path.{_≡_};
 ghost use mathlib.Core.Bool.{_&&_, _||_};
 

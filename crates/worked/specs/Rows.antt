@@ -25,10 +25,13 @@ pub data Mark : Type 0 where
   entry : ℕ → ℕ → ℕ → ℕ → Mark
   byteIs : ℕ → ℕ → ℕ → Mark
 
--- what a row starts from: the image that was left 0, 1, .. rows ago; or B erased blocks of P pages with some marks on them
 pub data Start : Type 0 where
+  -- the image that was left 0, 1, .. rows ago
   left : ℕ → Start
+  -- B erased blocks of P pages with some marks on them
   chip : ℕ → ℕ → List Mark → Start
+  -- an erased data image of so many pages, and a spare image of so many
+  uneven : ℕ → ℕ → Start
 
 -- a command, its cut number last; a write is of page a with n bytes v, a read of page a with a buffer of n bytes
 pub data Call : Type 0 where
@@ -44,7 +47,7 @@ pub data Did : Type 0 where
 
 -- what is looked at afterwards
 pub data Look : Type 0 where
-  -- a read of page a answers 0 and gives 512 bytes v
+  -- a read of page a gives 512 bytes v. (It is lent 512 bytes of 7, which it would leave if it were refused)
   reads : ℕ → ℕ → Look
   -- flash page p has 512 bytes v
   bytes : ℕ → ℕ → Look
@@ -55,7 +58,7 @@ pub data Look : Type 0 where
   -- logical page a is lent from flash page p; from no page
   lent : ℕ → ℕ → Look
   unlent : ℕ → Look
-  -- this read left 512 bytes, or as many as it was lent, of v; this power-up left this table. Both were lent full of 7
+  -- this read left its whole buffer at v; this power-up left this table. Both were lent full of 7
   got : ℕ → Look
   filled : List ℕ → Look
   -- no byte of the image changed
@@ -85,13 +88,17 @@ marked s [] im = im
 marked s (entry i n k a ∷ ms) im = marked s ms (stepDone s (program i (replicate 512 (100 + i)) (spareBytes n k a)) im)
 marked s (byteIs i at v ∷ ms) im = marked s ms (record { bytes = im .bytes; spare = replaced (im .spare) (i * 16 + at) 1 (v ∷ []) })
 
+abbrev pub erasedPages : ℕ → ℕ → Image
+erasedPages n m = record { bytes = replicate (n * 512) 255; spare = replicate (m * 16) 255 }
+
 abbrev pub blank : ℕ → ℕ → Image
-blank P B = record { bytes = replicate (B * P * 512) 255; spare = replicate (B * P * 16) 255 }
+blank P B = erasedPages (B * P) (B * P)
 
 -- old: the images left by the rows before, the last one first
 abbrev pub imageAt : Given → List Image → Start → Image
 imageAt g old (left k) = getD old k (blank 0 0)
 imageAt g old (chip P B ms) = marked (shapeIn g (blank P B)) ms (blank P B)
+imageAt g old (uneven n m) = erasedPages n m
 
 abbrev pub replyTo : Shape → Image → Call → Reply
 replyTo s im (format cut) = formatReply s im cut
@@ -130,7 +137,7 @@ filledBy s im (write a n v cut) t = false
 
 -- after the call the image old is im
 abbrev pub seen : Shape → Image → Call → Image → Look → Bool
-seen s old call im (reads a v) = eqb (number (readReply s im 512 a .answer)) 0 && same (pageLeft s im (replicate 512 7) a) (replicate 512 v)
+seen s old call im (reads a v) = same (pageLeft s im (replicate 512 7) a) (replicate 512 v)
 seen s old call im (bytes i v) = same (pageBytes im i) (replicate 512 v)
 seen s old call im (spare i t) = same (pageSpare im i) (t ++ replicate 8 255)
 seen s old call im (table t) = same (tableLeft s im (replicate (2 * s .logical) 7) 99) t

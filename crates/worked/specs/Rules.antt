@@ -1,7 +1,7 @@
 -- What document 01's own cases leave unseen: each of W1 to W7 broken, each role, each refusal and their order. Assumes nothing.
 use mathlib.Core.List.{List, [], _∷_, _++_}
 use Prim.Native.Nat.{ℕ}
-use Rattle.worked.specs.Rows.{Given, Mark, entry, byteIs, Start, left, chip, Call, format, powerUp, read, write, Did, p, e, Look, reads, spare, table, lent, unlent, got, filled, unchanged, Row}
+use Rattle.worked.specs.Rows.{Given, Mark, entry, byteIs, Start, left, chip, uneven, Call, format, powerUp, read, write, Did, p, e, Look, reads, spare, table, lent, unlent, got, filled, unchanged, Row}
 
 -- P 2, L 2; K 1 and B 4, or K 2 and B 5. Page p holds 512 bytes 100 + p where it is marked. A cut number of 9 cuts nothing.
 abbrev row : ℕ → Start → Call → ℕ → ℕ → ℕ → List Did → List Look → Row
@@ -16,10 +16,13 @@ answersAt P K B a marks =
 abbrev answers : ℕ → ℕ → ℕ → List Mark → Row
 answers = answersAt 2
 
--- 1: shape or image length outside the limits
+-- a read of page 0 on n erased pages, whose spare image is of m pages, answers a
+abbrev lengths : ℕ → ℕ → ℕ → ℕ → ℕ → ℕ → Row
+lengths P L K n m a =
+    record { given = record { P = P; L = L; K = K }; start = uneven n m; call = read 0 512; answer = a; programs = 0; erases = 0; did = []; looks = [] }
+
 abbrev shaped : ℕ → ℕ → ℕ → ℕ → ℕ → Row
-shaped P L K B a =
-    record { given = record { P = P; L = L; K = K }; start = chip 1 B []; call = read 0 512; answer = a; programs = 0; erases = 0; did = []; looks = [] }
+shaped P L K n a = lengths P L K n n a
 
 -- one page of a log block, of a copy
 abbrev log : ℕ → ℕ → ℕ → Mark
@@ -114,4 +117,9 @@ rules =
     ∷ shaped 2 1 1 4 1
     ∷ shaped 2 0 1 6 1
     ∷ shaped 2 1 0 6 1
+    -- a spare image of fewer pages, of more
+    ∷ lengths 2 1 1 6 5 1
+    ∷ lengths 2 1 1 6 8 1
+    -- L has no upper limit: such a card has too few good blocks
+    ∷ shaped 2 9223372036854775808 1 6 4
     ∷ []

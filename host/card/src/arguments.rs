@@ -5,8 +5,9 @@ use crate::help::Verb;
 use crate::store::{Place, Store};
 use hamutsigra::{Shape, NO_CUT};
 use std::collections::VecDeque;
-use std::ffi::OsString;
+use std::ffi::{OsStr, OsString};
 use std::mem::take;
+use std::os::unix::ffi::OsStrExt;
 
 /// What the tool was asked to do.
 #[derive(Debug, PartialEq, Eq)]
@@ -48,6 +49,9 @@ const OPTIONS: [(&str, Option<&str>); 8] = [
     ("--spare", None),
 ];
 
+/// The option that may be given more than once.
+const REPEATED: &str = "--bad";
+
 /// The arguments sorted into words and options; what is used is taken out.
 #[derive(Default)]
 struct Given {
@@ -62,20 +66,29 @@ impl Given {
         let mut given = Given::default();
         let mut arguments = arguments.into_iter();
         while let Some(argument) = arguments.next() {
-            match argument.to_str() {
-                Some("--help" | "-h") => given.help = true,
-                Some("--hex") => given.hex = true,
-                Some("--") => given.words.extend(arguments.by_ref()),
-                Some(text) if text.starts_with('-') && text != "-" => {
-                    let (name, joined) = option(text)?;
+            // Bytes, since the name of a file need not be text.
+            match argument.as_bytes() {
+                b"--help" | b"-h" => given.help = true,
+                b"--hex" => given.hex = true,
+                b"--" => given.words.extend(arguments.by_ref()),
+                [b'-', _, ..] => {
+                    let (name, joined) = option(&argument)?;
                     let value = joined.or_else(|| arguments.next());
                     let value = value.ok_or_else(|| usage(format!("{name} needs a value")))?;
-                    given.options.push((name, value));
+                    given.add(name, value)?;
                 }
                 _ => given.words.push_back(argument),
             }
         }
         Ok(given)
+    }
+
+    fn add(&mut self, name: &'static str, value: OsString) -> Result<(), Failure> {
+        if name != REPEATED && self.options.iter().any(|(given, _)| *given == name) {
+            return Err(usage(format!("{name} is given twice")));
+        }
+        self.options.push((name, value));
+        Ok(())
     }
 
     fn request(&mut self, verb: Verb) -> Result<Request, Failure> {
@@ -84,7 +97,7 @@ impl Given {
                 store: self.store()?,
                 pages: self.needed("--pages")?,
                 blocks: self.needed("--blocks")?,
-                bad: self.every("--bad")?,
+                bad: self.every(REPEATED)?,
             },
             Verb::Format => {
                 Request::Format { store: self.store()?, shape: self.shape()?, cut: self.cut()? }
@@ -141,8 +154,8 @@ impl Given {
 
     fn store(&mut self) -> Result<Store, Failure> {
         match (self.option("--data"), self.option("--spare")) {
-            (Some(data), Some(spare)) if data == "-" && spare == "-" => {
-                Err(usage("--data and --spare cannot both be -"))
+            (Some(data), Some(spare)) if data == spare => {
+                Err(usage(format!("--data and --spare cannot both be {}", data.display())))
             }
             (Some(data), Some(spare)) => Ok(Store::Pair { data: place(data), spare: place(spare) }),
             (None, None) => {
@@ -198,7 +211,7 @@ impl Given {
             return Err(usage(format!("{verb} has no use for {}", word.display())));
         }
         if let Some((name, _)) = self.options.first() {
-            return Err(usage(format!("{verb} does not take {name}, or not twice")));
+            return Err(usage(format!("{verb} does not take {name}")));
         }
         if self.hex {
             return Err(usage(format!("{verb} does not take --hex")));
@@ -208,18 +221,18 @@ impl Given {
 }
 
 /// The long name of an option, and its value where it is joined to the name.
-fn option(text: &str) -> Result<(&'static str, Option<OsString>), Failure> {
+fn option(argument: &OsStr) -> Result<(&'static str, Option<OsString>), Failure> {
+    let after = |start: &str| argument.as_bytes().strip_prefix(start.as_bytes());
     for (long, short) in OPTIONS {
-        if text == long || Some(text) == short {
+        if argument == long || short.is_some_and(|short| argument == short) {
             return Ok((long, None));
         }
-        let after_long = text.strip_prefix(long).and_then(|rest| rest.strip_prefix('='));
-        let after_short = short.and_then(|short| text.strip_prefix(short));
-        if let Some(value) = after_long.or(after_short) {
-            return Ok((long, Some(value.into())));
+        let after_long = after(long).and_then(|rest| rest.strip_prefix(b"="));
+        if let Some(value) = after_long.or_else(|| after(short?)) {
+            return Ok((long, Some(OsStr::from_bytes(value).to_owned())));
         }
     }
-    Err(usage(format!("no option is called {text}")))
+    Err(usage(format!("no option is called {}", argument.display())))
 }
 
 fn place(name: OsString) -> Place {

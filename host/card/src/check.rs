@@ -19,18 +19,25 @@ const MOST_REASONS: usize = 12;
 
 /// The report, and the number with which a write of the page would be answered.
 pub fn check(image: &Image, number: usize, shape: Shape) -> (String, u8) {
-    let mut lines = Vec::new();
-    for verb in [Verb::Format, Verb::PowerUp, Verb::Read, Verb::Write] {
+    let verbs = [Verb::Format, Verb::PowerUp, Verb::Read, Verb::Write];
+    let answered = verbs.map(|verb| {
         let asked = Asked { verb, image, shape, number };
-        lines.push(in_words(&asked, attempt(verb, image, number, shape)));
-    }
+        let answer = attempt(&asked);
+        (asked, answer)
+    });
+    let mut lines: Vec<String> = answered.iter().map(in_words).collect();
     lines.extend(reasons(image, shape));
-    let write = attempt(Verb::Write, image, number, shape);
+    lines.extend(remedies(&answered));
+    let [.., (_, write)] = answered;
     (lines.join("\n") + "\n", write.map_or_else(|refusal| refusal.number(), |_| 0))
 }
 
+/// A command and what it answers.
+type Answered<'a> = (Asked<'a>, Answer);
+
 /// What a command answers, tried on a copy.
-fn attempt(verb: Verb, image: &Image, number: usize, shape: Shape) -> Answer {
+fn attempt(asked: &Asked) -> Answer {
+    let Asked { verb, image, shape, number } = *asked;
     let Image { mut data, mut spare } = image.clone();
     let mut page = [0; DATA_BYTES];
     match verb {
@@ -44,19 +51,32 @@ fn attempt(verb: Verb, image: &Image, number: usize, shape: Shape) -> Answer {
     }
 }
 
-fn in_words(asked: &Asked, answer: Answer) -> String {
+fn in_words((asked, answer): &Answered) -> String {
     let command = match asked.verb {
         Verb::Read | Verb::Write => format!("{} {}", asked.verb.name(), asked.number),
         _ => asked.verb.name().to_string(),
     };
     match answer {
-        Ok(steps) => format!("{command:<10} answers 0: all done, with {}", count(steps)),
+        Ok(steps) => format!("{command:<10} answers 0: all done, with {}", count(*steps)),
         Err(refusal) => {
-            let number = refusal.number();
-            let (meaning, remedy) = (asked.meaning(refusal), asked.remedy(refusal));
-            format!("{command:<10} answers {number}: {meaning}. {remedy}.")
+            let (number, meaning) = (refusal.number(), asked.meaning(*refusal));
+            format!("{command:<10} answers {number}: {meaning}")
         }
     }
+}
+
+/// What to do about the refusals, set off by an empty line. Most have a cause in
+/// common, so each remedy is named once.
+fn remedies(answered: &[Answered]) -> Vec<String> {
+    let mut remedies = Vec::new();
+    for (asked, answer) in answered {
+        let remedy = answer.err().map(|refusal| format!("{}.", asked.remedy(refusal)));
+        remedies.extend(remedy.filter(|remedy| !remedies.contains(remedy)));
+    }
+    if !remedies.is_empty() {
+        remedies.insert(0, String::new());
+    }
+    remedies
 }
 
 /// Lines that say what the answers come from, set off by an empty one.

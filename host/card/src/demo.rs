@@ -39,8 +39,8 @@ struct Demo<'a> {
 
 impl Demo<'_> {
     fn case_1(&self) -> Result<(), Failure> {
-        title("Case 1. Format of 4 free blocks: no steps, answer 0. Page 3 reads 255.")?;
         commands::new(self.store, SHAPE.pages, BLOCKS, &[])?;
+        title("Case 1. Format of 4 free blocks: no steps, answer 0. Page 3 reads 255.")?;
         let steps = commands::format(self.store, SHAPE, NO_CUT)?;
         expect("format", steps, done(0, 0))?;
         let image = self.store.load()?;

@@ -46,6 +46,12 @@ impl Failure {
         Failure::CannotCreate(format!("{}: cannot be created or replaced: {error}", path.display()))
     }
 
+    pub fn exists(path: &Path) -> Failure {
+        let path = path.display();
+        let message = "cannot be created: it exists already; give another name, or move it away";
+        Failure::CannotCreate(format!("{path}: {message}"))
+    }
+
     pub fn interrupted(path: &Path, error: &io::Error) -> Failure {
         Failure::Interrupted(format!("{}: cannot be written: {error}", path.display()))
     }

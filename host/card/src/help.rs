@@ -142,9 +142,9 @@ card show IMAGE -P P -L L -K K
 
 Draws a map of the chip: for each block its role, its logical block, its sequence
 number, and its pages. On a small card the pages are shown by the logical page that
-they hold, on a large one by how far the block is filled (#). Bad, obsolete and broken
-blocks are marked with ! and in capitals. In colour on a terminal, unless NO_COLOR is
-set.
+they hold, on a large one by how far the block is filled (#; + in part). Bad, obsolete
+and broken blocks are in capitals and marked with !, as are those that break a rule with
+others. In colour on a terminal, unless NO_COLOR is set.
 ";
 
 const CHECK: &str = "\

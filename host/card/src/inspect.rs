@@ -1,4 +1,4 @@
-//! A look at a card, for `show`, `check` and `demo`.
+//! A look at a card, for `show`, `check` and `demo`, and for the words of a refusal.
 //!
 //! The layer tells nobody what a block is, and nothing of the layer is repeated on
 //! the host side but in the second program. So what is said of blocks, their roles

@@ -17,7 +17,7 @@ const BAR_WIDTH: usize = 8;
 pub fn draw_with_summary(card: &Card, paint: Paint) -> String {
     let blocks = Blocks::on(card);
     let mut lines = vec![draw(card, paint), summary(card, &blocks)];
-    lines.extend(hints(&blocks).map(String::from));
+    lines.extend(hint(card, &blocks).map(String::from));
     lines.join("\n") + "\n"
 }
 
@@ -25,9 +25,14 @@ pub fn draw_with_summary(card: &Card, paint: Paint) -> String {
 pub fn draw(card: &Card, paint: Paint) -> String {
     let blocks = Blocks::on(card);
     let style = Style::of(card, &blocks);
+    let in_breach: Vec<usize> =
+        blocks.breaches().into_iter().flat_map(|breach| breach.blocks).collect();
     let numbered = blocks.iter().enumerate();
-    let cells: Vec<Cell> =
-        numbered.map(|(number, block)| Cell::new(number, block, &blocks, &style)).collect();
+    let cells: Vec<Cell> = numbered
+        .map(|(number, block)| {
+            Cell::new(number, block, &blocks, &style).marked_if(in_breach.contains(&number))
+        })
+        .collect();
     table(&cells, &style, paint).join("\n") + "\n"
 }
 
@@ -106,6 +111,7 @@ fn used(block: &Block) -> Option<&Used> {
 /// What is drawn of one block.
 struct Cell {
     role: Role,
+    marked: bool,
     fields: [String; 5],
 }
 
@@ -119,6 +125,7 @@ impl Cell {
         let of_used = |field: fn(&Used) -> String| used(block).map_or(String::new(), field);
         Cell {
             role,
+            marked: matches!(role, Role::Bad | Role::Broken | Role::Obsolete),
             fields: [
                 number.to_string(),
                 name,
@@ -129,8 +136,10 @@ impl Cell {
         }
     }
 
-    fn needs_attention(&self) -> bool {
-        matches!(self.role, Role::Bad | Role::Broken | Role::Obsolete)
+    /// Marked as well if it breaks a rule together with other blocks, which its role
+    /// does not tell.
+    fn marked_if(self, in_breach: bool) -> Cell {
+        Cell { marked: self.marked || in_breach, ..self }
     }
 }
 
@@ -162,7 +171,7 @@ fn table(cells: &[Cell], style: &Style, paint: Paint) -> Vec<String> {
         let cells = columns.iter().filter_map(|column| column.get(row));
         let drawn: Vec<String> = cells
             .map(|cell| {
-                let mark = if cell.needs_attention() { '!' } else { ' ' };
+                let mark = if cell.marked { '!' } else { ' ' };
                 paint.role(cell.role, &line(mark, &cell.fields, &widths))
             })
             .collect();
@@ -191,10 +200,16 @@ fn summary(card: &Card, blocks: &Blocks) -> String {
     format!("{} blocks of {} pages: {}", card.blocks, card.shape.pages, counts.join(", "))
 }
 
-fn hints(blocks: &Blocks) -> impl Iterator<Item = &'static str> {
-    let ill_formed = !blocks.breaches().is_empty();
-    let obsolete = !blocks.obsolete().is_empty();
-    let ill_formed = ill_formed.then_some("! not well-formed: `card check` says where");
-    let obsolete = obsolete.then_some("! obsolete blocks: `card power-up` erases them");
-    ill_formed.into_iter().chain(obsolete)
+/// What the card would refuse for. As in its answers the first that applies is named:
+/// power-up erases nothing on a card that is not well-formed.
+fn hint(card: &Card, blocks: &Blocks) -> Option<&'static str> {
+    if (card.good_blocks() as u128) < card.shape.good_blocks_needed() {
+        Some("! too few good blocks for this shape: `card check` says more")
+    } else if !blocks.breaches().is_empty() {
+        Some("! not well-formed: `card check` says where")
+    } else if !blocks.obsolete().is_empty() {
+        Some("! obsolete blocks: `card power-up` erases them")
+    } else {
+        None
+    }
 }

@@ -13,7 +13,7 @@
 use crate::failure::Failure;
 use std::ffi::OsString;
 use std::fs::{self, File, OpenOptions};
-use std::io::{self, Write};
+use std::io::{self, ErrorKind, Write};
 use std::os::unix::fs::{fchown, MetadataExt};
 use std::path::{Path, PathBuf};
 
@@ -22,14 +22,12 @@ pub type Whole<'a> = (&'a Path, &'a [u8]);
 
 /// Replaces files (or makes them, where there are none) by these bytes.
 pub fn replace(files: &[Whole]) -> Result<(), Failure> {
+    remove_new(files);
     let made = files.iter().try_for_each(make_new);
     let begun = made.and_then(|()| files.iter().take(1).try_for_each(put_in_place));
     if begun.is_err() {
-        // All old files are still there. The last new one goes first, so that none
-        // is left that looks as if it had only to follow.
-        for (path, _) in files.iter().rev() {
-            let _ = fs::remove_file(new_name(path));
-        }
+        // All old files are still there.
+        remove_new(files);
         return begun;
     }
     files.iter().skip(1).try_for_each(put_in_place)
@@ -37,7 +35,11 @@ pub fn replace(files: &[Whole]) -> Result<(), Failure> {
 
 /// Finishes an interrupted replacement of a first and a second file.
 pub fn settle(first: &Path, second: &Path) -> Result<(), Failure> {
-    if new_name(second).is_file() && !new_name(first).exists() {
+    let new = new_name(second);
+    // A command keeps the length of an image. A new file of another length is a part
+    // of one, whose partner somebody has removed by hand.
+    let length = |path: &Path| fs::metadata(path).ok().map(|is| is.len());
+    if new.is_file() && length(&new) == length(second) && !new_name(first).exists() {
         rename_over(second)?;
     }
     Ok(())
@@ -69,12 +71,16 @@ pub fn create(files: &[Whole]) -> Result<(), Failure> {
             return Err(failure);
         }
     }
+    // What a crash has left of a former second file by this name is not to follow.
+    remove_new(files.get(1..).unwrap_or_default());
     Ok(())
 }
 
 fn create_one(path: &Path, bytes: &[u8]) -> Result<(), Failure> {
-    let created = OpenOptions::new().write(true).create_new(true).open(path);
-    let mut file = created.map_err(|error| Failure::cannot_create(path, &error))?;
+    let mut file = open_new(path).map_err(|error| match error.kind() {
+        ErrorKind::AlreadyExists => Failure::exists(path),
+        _ => Failure::cannot_create(path, &error),
+    })?;
     file.write_all(bytes).and_then(|()| file.sync_all()).map_err(|error| {
         let _ = fs::remove_file(path);
         Failure::interrupted(path, &error)
@@ -94,11 +100,25 @@ fn followed(path: &Path) -> PathBuf {
     fs::canonicalize(path).unwrap_or_else(|_| path.to_path_buf())
 }
 
+/// Removes new files, which a crash may have left as well. The last one goes first, so
+/// that none is left that looks as if it had only to follow.
+fn remove_new(files: &[Whole]) {
+    for (path, _) in files.iter().rev() {
+        let _ = fs::remove_file(new_name(path));
+    }
+}
+
 fn make_new((path, bytes): &Whole) -> Result<(), Failure> {
     let new = new_name(path);
-    let mut file = File::create(&new).map_err(|error| Failure::cannot_create(&new, &error))?;
+    let mut file = open_new(&new).map_err(|error| Failure::cannot_create(&new, &error))?;
     let written = file.write_all(bytes).and_then(|()| keep_owner_and_permissions(path, &file));
     written.and_then(|()| file.sync_all()).map_err(|error| Failure::interrupted(&new, &error))
+}
+
+/// Opens a file that is not there yet. What has its name is left alone: it may be a
+/// link to a file that is somebody else's.
+fn open_new(path: &Path) -> io::Result<File> {
+    OpenOptions::new().write(true).create_new(true).open(path)
 }
 
 fn keep_owner_and_permissions(old: &Path, new: &File) -> io::Result<()> {
@@ -115,18 +135,18 @@ fn put_in_place((path, _): &Whole) -> Result<(), Failure> {
 }
 
 fn rename_over(path: &Path) -> Result<(), Failure> {
-    let file = followed(path);
-    fs::rename(new_name(path), &file).map_err(|error| Failure::interrupted(path, &error))?;
+    let renamed = fs::rename(new_name(path), followed(path));
+    renamed.map_err(|error| Failure::interrupted(path, &error))?;
     // The new name reaches the disk with the folder; not every file system can be
     // told so.
-    let _ = File::open(folder(&file)).and_then(|folder| folder.sync_all());
+    let _ = File::open(folder(path)).and_then(|folder| folder.sync_all());
     Ok(())
 }
 
-/// The folder that a file is in.
-pub fn folder(path: &Path) -> &Path {
-    match path.parent() {
-        Some(folder) if folder != Path::new("") => folder,
-        _ => Path::new("."),
+/// The folder that a file itself is in, and not a link to it.
+pub fn folder(path: &Path) -> PathBuf {
+    match followed(path).parent() {
+        Some(folder) if folder != Path::new("") => folder.to_path_buf(),
+        _ => PathBuf::from("."),
     }
 }

@@ -6,6 +6,7 @@ use crate::image::{Image, DUMP_BYTES};
 use crate::replace::{self, Whole};
 use crate::stream;
 use hamutsigra::{DATA_BYTES, SPARE_BYTES};
+use second::shape::{BLOCKS, PAGES};
 use std::fs::{self, File, OpenOptions};
 use std::io::{self, Read};
 use std::path::{Path, PathBuf};
@@ -89,7 +90,7 @@ impl Store {
         // A stream first: it may come from a command that needs the folder.
         let streamed = if self.is_stream() { stream::read(MOST_BYTES + 1)? } else { Vec::new() };
         let paths: Vec<&Path> = self.paths().collect();
-        let held = paths.first().and_then(|path| hold(replace::folder(path)));
+        let held = paths.first().and_then(|path| hold(&replace::folder(path)));
         if let [data, spare] = paths[..] {
             replace::settle(data, spare)?;
         }
@@ -171,13 +172,17 @@ fn read_file(path: &Path, most: u64) -> Result<Vec<u8>, Failure> {
     Ok(bytes)
 }
 
-/// The bytes, if they are pages of this many bytes: some, and whole ones.
+/// The bytes, if they are pages of this many bytes: whole ones, and as many as a card
+/// of some shape has. (Whether it is a card of the shape given is for the layer to say.)
 fn whole_pages(place: &Place, bytes: Vec<u8>, page_bytes: usize) -> Result<Vec<u8>, Failure> {
     let wrong = match bytes.len() {
         0 => "it is empty".to_string(),
         length if length as u64 > MOST_BYTES => "it is larger than any card".to_string(),
         length if !length.is_multiple_of(page_bytes) => {
             format!("its {length} bytes are not whole pages of {page_bytes} bytes")
+        }
+        length if length / page_bytes < BLOCKS.start() * PAGES.start() => {
+            format!("it has fewer pages than any card: {}", length / page_bytes)
         }
         _ => return Ok(bytes),
     };

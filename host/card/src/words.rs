@@ -3,7 +3,9 @@
 use crate::failure::Failure;
 use crate::help::Verb;
 use crate::image::Image;
-use hamutsigra::{Refusal, Shape, Steps};
+use crate::inspect;
+use hamutsigra::{Refusal, Shape, Steps, DATA_BYTES, SPARE_BYTES};
+use second::shape::PAGES;
 
 /// A command as it was asked, for the words of a refusal.
 pub struct Asked<'a> {
@@ -17,23 +19,18 @@ pub struct Asked<'a> {
 impl Asked<'_> {
     /// The failure that a refusal of this command is.
     pub fn refused(&self, refusal: Refusal) -> Failure {
-        let words = format!("{}.\n      {}.", self.meaning(refusal), self.remedy(refusal));
-        Failure::Refused(refusal, words)
+        let (meaning, remedy) = (self.meaning(refusal), self.remedy(refusal));
+        let more = if refusal == Refusal::IllFormed { " `card check` says where." } else { "" };
+        Failure::Refused(refusal, format!("{meaning}.{more}\n      {remedy}."))
     }
 
     /// What a refusal means, in a sentence.
     pub fn meaning(&self, refusal: Refusal) -> String {
-        let Shape { pages, logical, logs } = self.shape;
+        let Shape { pages, logical, .. } = self.shape;
         match refusal {
             Refusal::OutsideLimits => {
-                let Image { data, spare } = self.image;
-                format!(
-                    "the shape or the length of the image is outside the limits: P is 2 to 32, \
-                     B 3 to 64, L and K at least 1; here P is {pages}, L {logical}, K {logs}, with \
-                     {} data bytes and {} spare bytes",
-                    data.len(),
-                    spare.len()
-                )
+                let limit = self.limit();
+                format!("the shape or the length of the image is outside the limits: {limit}")
             }
             Refusal::WrongBuffer if self.verb == Verb::PowerUp => {
                 format!("there is no table for as many as {logical} logical blocks")
@@ -44,13 +41,10 @@ impl Asked<'_> {
                 let last = logical as u128 * pages as u128 - 1;
                 format!("page {} is out of range: the card has pages 0 to {last}", self.number)
             }
-            Refusal::TooFewBlocks => {
-                let needed = logical as u128 + logs as u128 + 1;
-                format!("there are fewer good blocks than the {needed} needed, L + K + 1")
-            }
+            Refusal::TooFewBlocks => self.good_blocks(),
             Refusal::IllFormed => "the image is not well-formed".into(),
             Refusal::NeedsPowerUp => "an obsolete block exists, as after a cut".into(),
-            Refusal::OutOfNumbers => "the sequence numbers are used up".into(),
+            Refusal::OutOfNumbers => "the sequence numbers that are left do not suffice".into(),
             Refusal::Cut(steps) => {
                 format!("the card was pulled out after {}, before the last step", count(steps))
             }
@@ -64,15 +58,52 @@ impl Asked<'_> {
             Refusal::WrongBuffer if self.verb == Verb::PowerUp => "Check -L",
             Refusal::WrongBuffer => "Give exactly 512 bytes",
             Refusal::OutOfRange => "Check the page, -P and -L",
-            Refusal::TooFewBlocks => "Take a smaller L or K, or another chip",
+            Refusal::TooFewBlocks => {
+                "Check -P, -L and -K. If they are right, take another chip, or a smaller L or K"
+            }
+            // A wrong shape is the likelier cause, and a format cannot be undone.
             Refusal::IllFormed => {
-                "`card check` says where; `card format` makes an empty card of it, and loses all"
+                "Check -P, -L and -K. If they are right, only `card format` helps: all content \
+                 is lost"
             }
             Refusal::NeedsPowerUp => "Run `card power-up` first",
             Refusal::OutOfNumbers => "Read the pages out, format the card, and write them again",
             Refusal::Cut(_) if self.verb == Verb::Format => "Run `card format` again",
             Refusal::Cut(_) => "Run `card power-up`",
         }
+    }
+
+    /// The first limit that is not kept. A file has whole pages, so that it is enough
+    /// to count them.
+    fn limit(&self) -> String {
+        let Shape { pages, logical, logs } = self.shape;
+        let of_data = self.image.data.len() / DATA_BYTES;
+        let of_spare = self.image.spare.len() / SPARE_BYTES;
+        if !PAGES.contains(&pages) {
+            format!("P is {pages}, and can be 2 to 32")
+        } else if logical == 0 {
+            "L is 0, and must be at least 1".into()
+        } else if logs == 0 {
+            "K is 0, and must be at least 1".into()
+        } else if of_data != of_spare {
+            format!("the data image has {of_data} pages, the spare image {of_spare}")
+        } else if !of_data.is_multiple_of(pages) {
+            format!("the image has {of_data} pages, which are not whole blocks of {pages}")
+        } else {
+            let blocks = of_data / pages;
+            format!("the image has {blocks} blocks of {pages} pages, and can have 3 to 64")
+        }
+    }
+
+    /// How many good blocks there are, and how many are needed.
+    fn good_blocks(&self) -> String {
+        // 4 is given only where 1 does not apply, so that there is a card.
+        let Some(card) = inspect::card(self.image, self.shape) else {
+            return "there are too few good blocks".into();
+        };
+        let (good, blocks) = (card.good_blocks(), card.blocks);
+        let needed = card.shape.good_blocks_needed();
+        format!("{good} of {blocks} blocks are good, and {needed} are needed, L + K + 1")
     }
 }
 

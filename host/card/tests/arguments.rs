@@ -3,6 +3,8 @@
 mod common;
 
 use common::{Folder, SHAPE_ARGUMENTS};
+use std::ffi::OsStr;
+use std::os::unix::ffi::OsStrExt;
 
 #[test]
 fn wrong_arguments_are_said_to_be_wrong() {
@@ -22,7 +24,8 @@ fn wrong_arguments_are_said_to_be_wrong() {
         ("format card.img -P 4 -L 2 -K 1 --cut -1", "--cut is a number from 0"),
         ("format card.img -P 4 -L 2 -K 1 --quick", "no option is called --quick"),
         ("format card.img -P 4 -L 2 -K 1 -x", "no option is called -x"),
-        ("format card.img -P 4 -P 4 -L 2 -K 1", "does not take --pages, or not twice"),
+        ("format card.img -P 4 -P 4 -L 2 -K 1", "--pages is given twice"),
+        ("format card.img -P 4 --pages=5 -L 2 -K 1", "--pages is given twice"),
         ("format card.img other.img -P 4 -L 2 -K 1", "has no use for other.img"),
         ("format card.img -P 4 -L 2 -K 1 -B 4", "does not take --blocks"),
         ("format card.img -P 4 -L 2 -K 1 --hex", "does not take --hex"),
@@ -35,6 +38,7 @@ fn wrong_arguments_are_said_to_be_wrong() {
         ("show --data card.img -P 4 -L 2 -K 1", "given together"),
         ("show --spare card.img -P 4 -L 2 -K 1", "given together"),
         ("show --data - --spare - -P 4 -L 2 -K 1", "cannot both be -"),
+        ("new --data other --spare other -P 4 -B 4", "cannot both be other"),
         ("write - 1 -P 4 -L 2 -K 1", "cannot both be standard input"),
         ("new other.img -P 4", "--blocks is not given"),
         ("new other.img -P 1 -B 4", "3 to 64 blocks of 2 to 32 pages, not 4 of 1"),
@@ -83,4 +87,26 @@ fn options_may_stand_anywhere() {
         assert_eq!(folder.card(line).expect_done().out, expected);
     }
     folder.card(&format!("show card.img {SHAPE_ARGUMENTS}")).expect_done();
+}
+
+#[test]
+fn names_may_have_spaces_and_need_not_be_text() {
+    let folder = Folder::new();
+    for (data, spare) in [(&b"the data"[..], &b"the spare"[..]), (b"d\xff", b"s\xff")] {
+        let joined = [&b"--data="[..], data].concat();
+        let image = [&joined[..], b"--spare", spare].map(OsStr::from_bytes);
+        let card = |words: &str, input: &[u8]| {
+            let words = words.split_whitespace().map(OsStr::new);
+            folder.card_with_words(words.chain(image), input)
+        };
+        card("new -P 4 -B 4", &[]).expect_done();
+        card("write 1 -P 4 -L 2 -K 1", &[9; 512]).expect_done();
+        assert_eq!(card("read 1 -P 4 -L 2 -K 1", &[]).expect_done().out, [9; 512]);
+        for name in [data, spare] {
+            std::fs::remove_file(folder.as_ref().join(OsStr::from_bytes(name))).expect("made");
+        }
+    }
+    assert_eq!(folder.names(), [""; 0]);
+    let missing = [&b"show"[..], b"none\xff", b"-P4", b"-L2", b"-K1"].map(OsStr::from_bytes);
+    folder.card_with_words(missing, &[]).expect_failure(66, &["cannot be read"]);
 }

@@ -38,10 +38,14 @@ fn a_missing_page_file() {
 #[test]
 fn a_short_or_odd_file() {
     let folder = Folder::new();
-    for bytes in [0, 1, 511, 527, 529, DUMP_BYTES - 1, DUMP_BYTES + 1] {
+    for bytes in [0, 1, 511, 527, 528, 529, 5 * 528, DUMP_BYTES - 1, DUMP_BYTES + 1] {
         folder.put("card.img", &vec![255; bytes]);
         let before = folder.state("card.img");
-        let word = if bytes == 0 { "it is empty" } else { "not whole pages of 528 bytes" };
+        let word = match bytes {
+            0 => "it is empty",
+            528 | 2640 => "it has fewer pages than any card: ",
+            _ => "not whole pages of 528 bytes",
+        };
         for verb in VERBS {
             let run = folder.card_with_input(&line(verb, "card.img"), &[1; 512]);
             run.expect_failure(65, &["card.img: no image: ", word]);
@@ -90,8 +94,9 @@ fn a_device_is_not_replaced_by_a_file() {
 fn new_and_demo_do_not_overwrite() {
     let folder = Folder::after_case_4();
     let before = folder.state("card.img");
-    folder.card("new card.img -P 4 -B 4").expect_failure(73, &["card.img", "exists"]);
-    folder.card("demo card.img").expect_failure(73, &["card.img", "exists"]);
+    let words = ["card.img: cannot be created: it exists already; give another name"];
+    folder.card("new card.img -P 4 -B 4").expect_failure(73, &words);
+    assert_eq!(folder.card("demo card.img").expect_failure(73, &words).out, []);
     assert_eq!(folder.state("card.img"), before);
 
     // Of a pair none is made if one is there.
@@ -182,6 +187,18 @@ fn something_in_the_way_of_the_new_file() {
 }
 
 #[test]
+fn a_link_in_the_way_of_the_new_file() {
+    let folder = Folder::after_case_4();
+    folder.put("other", b"of somebody else");
+    symlink("other", folder.path("card.img.card-new")).expect("a link in the way");
+    folder.write(4, 15, "").expect_done();
+    assert_eq!(folder.on_card("read", "4").out, [15; 512]);
+    assert!(!folder.path("card.img").is_symlink());
+    assert_eq!(folder.bytes("other"), b"of somebody else");
+    assert_eq!(folder.names(), ["card.img", "other"]);
+}
+
+#[test]
 fn what_a_crash_left_is_no_harm() {
     let folder = Folder::after_case_4();
     folder.put("card.img.card-new", b"a part of an image");
@@ -208,6 +225,23 @@ fn a_crash_while_writing_loses_nothing() {
     folder.write(4, 15, "").expect_done();
     assert_eq!(folder.on_card("read", "4").out, [15; 512]);
     assert_eq!(folder.names(), ["card.img"]);
+}
+
+/// The same where the tool lives on to say so, as on a full disk.
+#[test]
+fn a_full_disk_loses_nothing() {
+    let folder = Folder::after_case_4();
+    let before = folder.state("card.img");
+    folder.put("page", &[15; 512]);
+    let tool = env!("CARGO_BIN_EXE_card");
+    for line in [format!("write card.img 4 page {SHAPE_ARGUMENTS}"), "new n -P 4 -B 4".into()] {
+        let mut command = Command::new("sh");
+        let script = format!("trap '' XFSZ; ulimit -f 1; '{tool}' {line}");
+        command.args(["-c", &script]).current_dir(&folder);
+        run(command, &[]).expect_failure(74, &["cannot be written"]);
+        assert_eq!(folder.state("card.img"), before);
+        assert_eq!(folder.names(), ["card.img", "page"]);
+    }
 }
 
 #[test]
@@ -260,14 +294,21 @@ fn a_reader_that_stops_early_is_no_failure() {
 #[test]
 fn commands_on_one_image_wait_for_each_other() {
     let folder = Folder::with_card();
+    // By whatever name.
+    fs::create_dir(folder.path("links")).expect("a folder");
+    symlink("../card.img", folder.path("links/link")).expect("a link");
     std::thread::scope(|scope| {
         for number in 0..8 {
+            let name = if number % 2 == 0 { "card.img" } else { "links/link" };
+            let line = format!("write {name} {number} {SHAPE_ARGUMENTS}");
             let folder = &folder;
-            scope.spawn(move || folder.write(number, 100 + number as u8, "").expect_done().status);
+            scope.spawn(move || {
+                folder.card_with_input(&line, &[100 + number; 512]).expect_done();
+            });
         }
     });
     for number in 0..8 {
-        assert_eq!(folder.on_card("read", &number.to_string()).out, [100 + number as u8; 512]);
+        assert_eq!(folder.on_card("read", &number.to_string()).out, [100 + number; 512]);
     }
-    assert_eq!(folder.names(), ["card.img"]);
+    assert_eq!(folder.names(), ["card.img", "links"]);
 }

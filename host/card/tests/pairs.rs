@@ -60,7 +60,7 @@ fn lengths_that_do_not_fit() {
     // Whole pages, but not as many on both sides: for the card to answer.
     folder.put("short", &[255; 240]);
     let line = format!("read 0 --data d --spare short {SHAPE_ARGUMENTS}");
-    folder.card(&line).expect_failure(1, &["8192 data bytes and 240 spare bytes"]);
+    folder.card(&line).expect_failure(1, &["the data image has 16 pages, the spare image 15"]);
     folder
         .card(&format!("read 0 --data d --spare none {SHAPE_ARGUMENTS}"))
         .expect_failure(66, &["none"]);
@@ -93,6 +93,27 @@ fn a_replacement_that_had_not_begun_is_dropped() {
     assert_eq!((folder.bytes("d"), folder.bytes("s")), old);
 
     folder.card_with_input(&format!("write 4 {PAIR}"), &[15; 512]).expect_done();
+    assert_eq!(folder.names(), ["card.img", "d", "s"]);
+}
+
+/// A crash while the second new file was written, and the first one removed by hand.
+#[test]
+fn a_part_of_a_new_file_does_not_follow() {
+    let folder = pair();
+    let old = (folder.state("d"), folder.state("s"));
+    folder.put("s.card-new", &[1; 16]);
+    assert_eq!(folder.card(&format!("read 3 {PAIR}")).expect_done().out, [14; 512]);
+    assert_eq!((folder.state("d"), folder.state("s")), old);
+}
+
+#[test]
+fn what_a_crash_left_does_not_follow_a_new_image() {
+    let folder = pair();
+    fs::rename(folder.path("s"), folder.path("s.card-new")).expect("renamed");
+    fs::remove_file(folder.path("d")).expect("removed");
+    folder.card("new --data d --spare s -P 4 -B 4").expect_done();
+    folder.card(&format!("read 3 {PAIR}")).expect_done();
+    assert_eq!(folder.bytes("s"), [255; 256]);
     assert_eq!(folder.names(), ["card.img", "d", "s"]);
 }
 

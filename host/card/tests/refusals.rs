@@ -34,11 +34,17 @@ fn answer_1_outside_the_limits() {
             refused(&folder, &format!("{verb} {shape}"), &[], 1, &["the limits", "Check -P"]);
         }
     }
-    // 16 pages are no whole number of blocks of 5, and too few blocks of 6.
-    for pages in [5, 6] {
-        let line = format!("write card.img 0 -P {pages} -L 2 -K 1");
-        refused(&folder, &line, &[1; 512], 1, &["8192 data bytes and 256 spare bytes"]);
-        refused(&folder, &format!("lend card.img 0 -P {pages} -L 2 -K 1"), &[], 1, &[]);
+    // Which limit it is.
+    for (shape, words) in [
+        ("-P 1 -L 2 -K 1", "P is 1, and can be 2 to 32"),
+        ("-P 33 -L 0 -K 0", "P is 33, and can be 2 to 32"),
+        ("-P 4 -L 0 -K 0", "L is 0, and must be at least 1"),
+        ("-P 4 -L 2 -K 0", "K is 0, and must be at least 1"),
+        ("-P 5 -L 2 -K 1", "16 pages, which are not whole blocks of 5"),
+        ("-P 8 -L 2 -K 1", "2 blocks of 8 pages, and can have 3 to 64"),
+    ] {
+        refused(&folder, &format!("write card.img 0 {shape}"), &[1; 512], 1, &[words]);
+        refused(&folder, &format!("lend card.img 0 {shape}"), &[], 1, &[words]);
     }
 }
 
@@ -69,7 +75,7 @@ fn answer_3_out_of_range() {
 fn answer_4_too_few_good_blocks() {
     let folder = with_spare(1, &[255, 255, 255, 255, 255, 0]);
     for verb in ["format card.img", "power-up card.img", "read card.img 0", "write card.img 0"] {
-        let words = ["fewer good blocks than the 4 needed", "smaller L or K"];
+        let words = ["3 of 4 blocks are good, and 4 are needed", "Check -P, -L and -K"];
         refused(&folder, &format!("{verb} {SHAPE_ARGUMENTS}"), &[1; 512], 4, &words);
     }
 }
@@ -78,7 +84,7 @@ fn answer_4_too_few_good_blocks() {
 fn answer_5_ill_formed() {
     let folder = with_spare(1, &[1, 0, 0, 0, 99]);
     for verb in ["power-up card.img", "read card.img 0", "lend card.img 0", "write card.img 0"] {
-        let words = ["not well-formed", "`card check`", "`card format`"];
+        let words = ["not well-formed", "`card check`", "Check -P, -L and -K", "`card format`"];
         refused(&folder, &format!("{verb} {SHAPE_ARGUMENTS}"), &[1; 512], 5, &words);
     }
     assert_eq!(folder.on_card("check", "").status, 5);

@@ -161,6 +161,35 @@ fn show_marks_bad_and_broken_blocks() {
 }
 
 #[test]
+fn show_marks_blocks_that_break_a_rule_together() {
+    let folder = Folder::after_case_4();
+    folder.write(4, 15, "--cut 4").expect_failure(8, &[]);
+    // Block 3 has the number of block 2.
+    let mut image = folder.bytes("card.img");
+    image[12 * PAGE_IN_DUMP + 512..][..8].copy_from_slice(&[4, 0, 0, 0, 240, 255, 7, 0]);
+    folder.put("card.img", &image);
+    let run = folder.on_card("show", "");
+    let expected = "  block  role      logical  number  pages
+!     0  OBSOLETE        0       3  3 . . .
+!     1  OBSOLETE        0       2  0 1 2 3
+!     2  data            0       4  0 1 2 3
+!     3  log             1       4  7 . . .
+
+4 blocks of 4 pages: 1 data, 1 log (at most 1), 0 free, 2 OBSOLETE
+! not well-formed: `card check` says where
+";
+    assert_eq!(run.expect_done().text, expected, "power-up would be refused: it is no advice");
+}
+
+#[test]
+fn show_says_if_there_are_too_few_good_blocks() {
+    let folder = Folder::after_case_4();
+    let run = folder.card("show card.img -P 4 -L 3 -K 1");
+    let hint = "\n! too few good blocks for this shape: `card check` says more\n";
+    assert!(run.expect_done().text.ends_with(hint), "{}", run.text);
+}
+
+#[test]
 fn show_draws_a_large_card_in_two_columns() {
     let folder = Folder::new();
     folder.card("new card.img -P 32 -B 64 --bad 33").expect_done();
@@ -211,7 +240,7 @@ fn check_says_why_a_card_needs_power_up() {
     assert_eq!((run.status, run.error.as_str()), (6, ""));
     assert!(run.text.contains("read 0     answers 0:"));
     assert!(run.text.contains("write 0    answers 6: an obsolete block exists"));
-    assert!(run.text.contains("Run `card power-up` first."));
+    assert!(run.text.ends_with("\n\nRun `card power-up` first.\n"));
     assert!(run.text.contains("block 0: obsolete, a log block that has been merged\n"));
     assert!(run.text.contains("block 1: obsolete, a data block that has been replaced\n"));
 }
@@ -248,6 +277,9 @@ fn check_names_every_rule_that_is_broken() {
     ] {
         assert!(run.text.contains(reason), "{reason:?} is missing in:\n{}", run.text);
     }
+    // Three commands are refused, and there is one thing to do.
+    assert_eq!(run.text.matches("answers 5: the image is not well-formed\n").count(), 3);
+    assert_eq!(run.text.matches("Check -P, -L and -K.").count(), 1);
 }
 
 #[test]

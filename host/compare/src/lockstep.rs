@@ -34,7 +34,9 @@ impl Lockstep {
         let one = attempt(self.tested, command, lent);
         let other = attempt(self.second, command, lent);
         self.tally.count(command, &other.reply);
-        if one == other {
+        // Both breaking off at the same place would be no difference, and is none of
+        // the answers either.
+        if one == other && other.reply != Reply::Panicked {
             Ok((other.reply, other.left))
         } else {
             Err(self.difference(command, lent, &one, &other))
@@ -70,8 +72,50 @@ impl Lockstep {
 
 fn attempt(layer: Layer, command: Command, lent: &Lent) -> Outcome {
     let mut left = lent.clone();
-    // What a layer that panics has left behind is of no interest: that it did is a
-    // difference.
+    // What a layer that panics has left behind is of no interest: that it did ends the
+    // run.
     let reply = panic::catch_unwind(AssertUnwindSafe(|| (layer.run)(command, &mut left)));
     Outcome { reply: reply.unwrap_or(Reply::Panicked), left }
+}
+
+#[cfg(test)]
+mod tests {
+    use super::*;
+    use crate::command::Action;
+    use crate::guarded::Guarded;
+    use crate::layer::SECOND;
+    use second::Shape;
+
+    const BREAKS_OFF: Layer = Layer { name: "breaks off", run: |_, _| panic!("as it should") };
+
+    /// What is said of a format of nothing by two layers.
+    fn said(tested: Layer, second: Layer) -> Option<String> {
+        let shape = Shape { pages: 4, logical: 2, logs: 1 };
+        let command = Command { shape, action: Action::Format { cut: 0 } };
+        let none = Guarded::new(&[], 0);
+        let lent = Lent {
+            data: none.clone(),
+            spare: none.clone(),
+            table: Guarded::new(&[], 0),
+            page: none,
+        };
+        let ran = Lockstep::new(tested, second).run(command, &lent);
+        ran.err().map(|difference| difference.0)
+    }
+
+    #[test]
+    fn a_layer_that_panics_is_reported() {
+        assert_eq!(said(SECOND, SECOND), None);
+        for (tested, second) in [(BREAKS_OFF, SECOND), (SECOND, BREAKS_OFF)] {
+            let words = said(tested, second).expect("a difference");
+            assert!(words.contains("\n  breaks off: it panicked"), "{words}");
+            assert!(words.contains("\n  the second program: answer 1, "), "{words}");
+        }
+    }
+
+    #[test]
+    fn two_layers_that_panic_alike_are_reported() {
+        let words = said(BREAKS_OFF, BREAKS_OFF).expect("a difference");
+        assert_eq!(words.matches("it panicked").count(), 2);
+    }
 }

@@ -20,6 +20,7 @@ use lockstep::{Difference, Lockstep};
 use options::Options;
 use progress::Progress;
 use std::env;
+use std::io::{self, Write};
 use std::process::ExitCode;
 use std::time::Instant;
 
@@ -29,10 +30,11 @@ const DIFFERENT: u8 = 1;
 const WRONG_ARGUMENTS: u8 = 64;
 
 fn main() -> ExitCode {
-    match options::parse(env::args().skip(1)) {
+    let arguments = env::args_os().map(|argument| argument.to_string_lossy().into_owned());
+    match options::parse(arguments.skip(1)) {
         Ok(Some(options)) => compare(&options),
         Ok(None) => {
-            print!("{}", options::HELP);
+            say(options::HELP);
             ExitCode::SUCCESS
         }
         Err(message) => {
@@ -46,9 +48,9 @@ fn main() -> ExitCode {
 fn compare(options: &Options) -> ExitCode {
     let started = Instant::now();
     let mut lockstep = Lockstep::new(options.tested(), layer::SECOND);
-    let mut progress = Progress::new();
+    let mut progress = Progress::new(options.cards);
     // Each card has a seed of its own, so that it can be replayed by itself.
-    for card in 0..options.cards {
+    for card in 0..options.cards.unwrap_or(u64::MAX) {
         if options.seconds.is_some_and(|seconds| started.elapsed() >= seconds) {
             break;
         }
@@ -63,13 +65,22 @@ fn compare(options: &Options) -> ExitCode {
         progress.show(&lockstep.tally);
     }
     progress.clear();
-    println!("{}", lockstep.tally);
-    println!("compare: {}, 0 differences", lockstep.tally.size());
+    let size = lockstep.tally.size();
+    say(&format!("{}\ncompare: {size}, 0 differences\n", lockstep.tally));
     ExitCode::SUCCESS
 }
 
 fn report(options: &Options, lockstep: &Lockstep, seed: u64, difference: &Difference) {
-    println!("{}", difference.0);
-    println!("replay: {}", options.replay(seed));
-    println!("compare: {}, 1 difference, with seed {seed}", lockstep.tally.size());
+    // By the name under which it was run, so that the line can be given to the shell.
+    let program = env::args_os().next().unwrap_or_else(|| "compare".into());
+    let (program, arguments) = (program.display(), options.replay(seed));
+    let size = lockstep.tally.size();
+    say(&format!("{}\nreplay: {program} {arguments}\n", difference.0));
+    say(&format!("compare: {size}, 1 difference, with seed {seed}\n"));
+}
+
+/// Writes a text to standard output. The exit status says the same, so that it is no
+/// failure if nobody reads on.
+fn say(text: &str) {
+    let _ = io::stdout().write_all(text.as_bytes());
 }

@@ -22,9 +22,9 @@ it, and ends with exit status 1; for wrong arguments 64.
 const SECONDS: Duration = Duration::from_secs(30);
 
 pub struct Options {
-    /// At most so many cards ..
-    pub cards: u64,
-    /// .. and, if given, no longer than this.
+    /// If given, at most so many cards ..
+    pub cards: Option<u64>,
+    /// .. and no longer than this.
     pub seconds: Option<Duration>,
     pub seed: u64,
     fault: Option<Layer>,
@@ -50,7 +50,7 @@ pub fn parse(arguments: impl IntoIterator<Item = String>) -> Result<Option<Optio
     if cards.is_none() && seconds.is_none() {
         seconds = Some(SECONDS);
     }
-    Ok(Some(Options { cards: cards.unwrap_or(u64::MAX), seconds, seed, fault }))
+    Ok(Some(Options { cards, seconds, seed, fault }))
 }
 
 impl Options {
@@ -59,10 +59,10 @@ impl Options {
         self.fault.unwrap_or(PROVED)
     }
 
-    /// The command that plays the one card with this seed again.
+    /// The arguments that play the one card with this seed again.
     pub fn replay(&self, seed: u64) -> String {
         let fault = self.fault.map_or(String::new(), |fault| format!(" --fault {}", fault.name));
-        format!("compare --cards 1 --seed {seed}{fault}")
+        format!("--cards 1 --seed {seed}{fault}")
     }
 }
 

@@ -62,7 +62,8 @@ fn planted_faults_are_found() {
 #[test]
 fn a_difference_can_be_replayed() {
     let run = compare("--cards 200 --seed 2000 --fault early-erase");
-    let replay = run.text.lines().find_map(|line| line.strip_prefix("replay: compare "));
+    let program = concat!("replay: ", env!("CARGO_BIN_EXE_compare"), " ");
+    let replay = run.text.lines().find_map(|line| line.strip_prefix(program));
     let again = compare(replay.expect("a command that replays it"));
     assert_eq!(again.status, Some(1));
     let difference = |text: &str| text.split("replay: ").next().map(str::to_string);

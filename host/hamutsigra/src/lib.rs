@@ -23,6 +23,9 @@
 //!
 //! Every command takes P, L and K as a [`Shape`]; B follows from the lengths of
 //! the images. Any shape, any length and any bytes have an answer.
+//!
+//! A command panics only if the library linked is another one: if it gives what is no
+//! answer of the card.
 
 #![deny(unsafe_code)]
 #![warn(missing_docs)]

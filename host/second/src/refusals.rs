@@ -40,10 +40,10 @@ pub fn logical_page(a: usize, shape: Shape) -> Result<(), Refusal> {
     refuse_if(!shape.in_range(a), Refusal::OutOfRange)
 }
 
-/// 4: fewer good blocks than L + K + 1, the sum taken in a wider number.
+/// 4: fewer good blocks than L + K + 1.
 pub fn good_blocks(card: &Card) -> Result<(), Refusal> {
-    let needed = card.shape.logical as u128 + card.shape.logs as u128 + 1;
-    refuse_if((card.good_blocks() as u128) < needed, Refusal::TooFewBlocks)
+    let good_blocks = card.good_blocks() as u128;
+    refuse_if(good_blocks < card.shape.good_blocks_needed(), Refusal::TooFewBlocks)
 }
 
 /// 5: W1 to W7 not all true.

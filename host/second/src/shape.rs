@@ -37,6 +37,12 @@ impl Shape {
         })
     }
 
+    /// The good blocks needed, L + K + 1. L and K have no upper limit, so the sum is
+    /// taken in a wider number.
+    pub fn good_blocks_needed(&self) -> u128 {
+        self.logical as u128 + self.logs as u128 + 1
+    }
+
     /// Logical page a belongs to logical block floor(a / P) ..
     pub fn logical_block(&self, a: usize) -> usize {
         a / self.pages

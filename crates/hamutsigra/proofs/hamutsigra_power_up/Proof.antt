@@ -8,7 +8,7 @@ use Rattle.hamutsigra.proofs.hamutsigra_power_up.Tie as tie
 
 pack-requires : tie.Need-pack-requires
 pack-requires c κs =
-    subst InBits (sym (c .before .before .before .before .before .before .power-up .ensures .changed .answer)) (powerUpReply-fits _ _ _ _)
+    subst InBits (sym (c .before .before .before .before .before .before .power-up .ensures .replied .answer)) (powerUpReply-fits _ _ _ _)
 
 pub hamutsigra-power-up-spec : {M : Type 1} → statement M
 hamutsigra-power-up-spec =

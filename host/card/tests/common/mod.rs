@@ -4,6 +4,7 @@
 
 use hamutsigra::Shape;
 use std::env;
+use std::ffi::OsStr;
 use std::fs;
 use std::io::Write;
 use std::os::unix::fs::MetadataExt;
@@ -73,8 +74,16 @@ impl Folder {
 
     /// Runs the tool in the folder with bytes on its standard input.
     pub fn card_with_input(&self, line: &str, input: &[u8]) -> Run {
+        self.card_with_words(line.split_whitespace(), input)
+    }
+
+    /// The same with arguments that need not be text, nor without a space.
+    pub fn card_with_words<W>(&self, words: W, input: &[u8]) -> Run
+    where
+        W: IntoIterator<Item: AsRef<OsStr>>,
+    {
         let mut command = Command::new(env!("CARGO_BIN_EXE_card"));
-        command.args(line.split_whitespace()).current_dir(&self.0);
+        command.args(words).current_dir(&self.0);
         run(command, input)
     }
 

@@ -6,16 +6,16 @@ use lib.ListN.{length}
 use borrow.Author.Needs.{needs}
 use Rattle.rules.specs.Facts.{imageOf}
 use Rattle.rules.specs.WellFormed.{blocksIn}
-use Rattle.card.specs.Runs.{state, Ran}
+use Rattle.steps.specs.Runs.{progress, Ran}
+use Rattle.steps.proofs.Running.{ran-none, ran-same}
 use Rattle.card.specs.Sweeps.{sweepTo}
-use Rattle.card.proofs.Running.{ran-none, ran-same}
 use Rattle.card.proofs.Sweeping.{sweepTo-none, sweep-turn}
 use Rattle.card.proofs.sweep.erase_all.Statement.{statement}
 use Rattle.card.proofs.sweep.erase_all.Tie as tie
 
 abbrev Inv-loop : tie.InvT-loop
 Inv-loop bytes₀ spare₀ s all list ds blocks u₀ j₀ bytes spare u j = (j ≤ blocks) × (length bytes ≡ length bytes₀) × (length spare ≡ length spare₀)
-    × Ran s (sweepTo all s (blocksIn list) j) (state (imageOf bytes₀ spare₀) u₀) bytes spare u
+    × Ran s (sweepTo all s (blocksIn list) j) (progress (imageOf bytes₀ spare₀) u₀) bytes spare u
 
 abbrev μ-loop : tie.MeasureT-loop
 μ-loop bytes₀ spare₀ s all list ds blocks u₀ j₀ bytes spare u j = blocks - j
@@ -40,7 +40,7 @@ loop-again c =
       omega (arith, turn .loop-test .taken),
       search needs,
       search needs,
-      sweep-turn (a .all) (a .s) (blocksIn (a .t4)) (loop .j) (state (imageOf (a .bytes .now) (a .spare .now)) (a .t)) (pre .1 .at (loop .j)
+      sweep-turn (a .all) (a .s) (blocksIn (a .t4)) (loop .j) (progress (imageOf (a .bytes .now) (a .spare .now)) (a .t)) (pre .1 .at (loop .j)
           (turn .loop-test .taken))
           (c .before .before .before .before .before .goes .ensures) (loop .inv .3) (c .before .before .before .before .erase-if .ensures),
     )

@@ -9,7 +9,7 @@ use Rattle.rules.specs.WellFormed.{blocksOf}
 use Rattle.rules.specs.Replies.{tooFewGood}
 use Rattle.laws.proofs.Tests.{true-is}
 use Rattle.laws.proofs.Shape.{withinLimits-within}
-use Rattle.card.proofs.Refusing.{few-by}
+use Rattle.refusals.proofs.Refusing.{few-by}
 use Rattle.card.proofs.Sweeping.{format-shape, format-few, format-none, format-refused, format-done}
 use Rattle.card.proofs.sweep.format.Statement.{statement}
 use Rattle.card.proofs.sweep.format.Tie as tie

@@ -9,9 +9,8 @@ use borrow.Author.Tests.{eqb-true}
 use borrow.Author.Needs.{needs}
 use Rattle.rules.specs.Facts.{imageOf}
 use Rattle.rules.specs.WellFormed.{blocksOf}
-use Rattle.card.specs.Orders.{callRefusal, cardRefusal}
-use Rattle.card.proofs.Refusing.{Accepted, call-accepts, powerUp-order}
-use Rattle.card.proofs.Reading.{refusal-first, refusal-next}
+use Rattle.refusals.specs.Orders.{callRefusal, cardRefusal}
+use Rattle.refusals.proofs.Refusing.{Accepted, call-accepts, powerUp-order, refusal-first, refusal-next}
 use Rattle.card.proofs.Sweeping.{powerUp-refused, powerUp-cut, powerUp-done}
 use Rattle.card.proofs.sweep.power_up.Statement.{statement}
 use Rattle.card.proofs.sweep.power_up.Tie as tie

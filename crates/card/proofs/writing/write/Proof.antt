@@ -7,10 +7,10 @@ use borrow.Author.Tests.{eqb-true}
 use borrow.Author.Needs.{needs}
 use Rattle.rules.specs.Facts.{imageOf}
 use Rattle.rules.specs.WellFormed.{blocksIn}
-use Rattle.card.specs.Plans.{Told}
-use Rattle.card.proofs.Refusing.{Accepted, call-accepts}
-use Rattle.card.proofs.Reading.{scanned-filled}
-use Rattle.card.proofs.Planning.{Ready}
+use Rattle.refusals.proofs.Refusing.{Accepted, call-accepts}
+use Rattle.plans.specs.Plans.{Told}
+use Rattle.plans.proofs.Planning.{Ready}
+use Rattle.card.proofs.Fetching.{scanned-filled}
 use Rattle.card.proofs.Carrying.{write-first, write-second, write-third, write-ready, write-refused, write-done}
 use Rattle.card.proofs.writing.write.Statement.{statement}
 use Rattle.card.proofs.writing.write.Tie as tie

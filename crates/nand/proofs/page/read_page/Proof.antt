@@ -1,6 +1,10 @@
 -- Assumes nothing.
-use mathlib.Core.Path.{sym, _∙_}
+use mathlib.Core.Path.{sym, ap, _∙_}
+use mathlib.Core.List.{List}
+use Prim.Native.Nat.{ℕ}
 use borrow.Author.Needs.{needs}
+use Rattle.rules.specs.declared.page.Page.the-variants.{Entry}
+use Rattle.rules.specs.Spare.{numberIn, kindIn}
 use Rattle.laws.proofs.Tests.{true-is, false-is}
 use Rattle.laws.proofs.Pages.{pageOf-erased, pageOf-entry, pageOf-junk}
 use Rattle.nand.proofs.page.read_page.Statement.{statement}
@@ -13,11 +17,15 @@ returns c =
 
 returns-2 : tie.Need-returns-2
 returns-2 c =
-    let table = c .before .before .before in
+    let number = c .before .before in
+    let table = number .before in
     let programmed = table .before .before in
     let a = programmed .before .before .before .before .args in
-    cc
-    (pageOf-entry (a .page .now) (a .marks .now) (false-is _ (sym (programmed .before .page-erased .ensures) ∙ programmed .if1 .left))
+    let t : List ℕ = a .marks .now in
+    ap (λ (n : ℕ). Entry n (kindIn t) (c .address-in .result)) (number .number-in .ensures)
+    ∙ ap (Entry (numberIn t) (kindIn t)) (c .address-in .ensures)
+    ∙ sym
+    (pageOf-entry (a .page .now) t (false-is _ (sym (programmed .before .page-erased .ensures) ∙ programmed .if1 .left))
     (true-is _ (sym (table .before .in-table .ensures) ∙ table .if2 .taken)))
 
 returns-3 : tie.Need-returns-3

@@ -50,9 +50,10 @@ returns c =
           (second .fill-2552 .ensures ∙ ap (λ (k : ℕ). replicate k 255) (part-lent-length (a .spare .now) (from .result) short there));
     }
 
+-- The lengths stay: a lent part that comes back (`.given`) leaves its image as long as it was.
 pub erase-block-spec : {M : Type 1} → statement M
 erase-block-spec =
     tie.close
     (tie.spec (λ c κs. search needs) (λ c. search needs) add-long (λ c. search needs) (λ c. search needs) long-end (λ c κs. search needs)
     (λ c κs. search needs) (λ c. search needs) (λ c. search needs) (λ c. search needs) (λ c. search needs) short-end (λ c κs. search needs)
-    (λ c. search needs) (λ c. search needs) returns)
+    (λ c. c .before .before .before .before .before .before .bytes .given .1) (λ c. c .before .spare .given .1) returns)

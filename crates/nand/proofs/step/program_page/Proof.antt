@@ -19,9 +19,10 @@ returns c =
       spare-are = replaced-lent (a .spare .now) (a .marks .now) _ (a .p * 16) _ 16 (from .ensures) (second .copy-over2 .ensures);
     }
 
+-- The lengths stay: a lent part that comes back (`.given`) leaves its image as long as it was.
 pub program-page-spec : {M : Type 1} → statement M
 program-page-spec =
     tie.close
     (tie.spec (λ c κs. search needs) (λ c. search needs) (λ c. search needs) (λ c. search needs) (λ c. search needs) (λ c κs. search needs)
     (λ c κs. search needs) (λ c. search needs) (λ c. search needs) (λ c. search needs) (λ c. search needs) (λ c κs. search needs)
-    (λ c. search needs) (λ c. search needs) returns)
+    (λ c. c .before .before .before .before .before .before .before .bytes .given .1) (λ c. c .before .spare .given .1) returns)

@@ -5,8 +5,9 @@ use native.Mathlib.Omega.{arith}
 use borrow.Author.Needs.{needs}
 use Rattle.rules.specs.Below.{highestBelow}
 use Rattle.rules.specs.WellFormed.{blocksIn}
+use Rattle.laws.proofs.Below.{highest-turn}
 use Rattle.roles.specs.Passes.{completeNumber}
-use Rattle.roles.proofs.Passes.{highest-turn, dataNumber-none, dataNumber-all}
+use Rattle.roles.proofs.Passes.{dataNumber-none, dataNumber-all}
 use Rattle.roles.proofs.numbers.data_number.Statement.{statement}
 use Rattle.roles.proofs.numbers.data_number.Tie as tie
 

@@ -7,7 +7,8 @@ use lib.Dec.{eqb}
 use borrow.Author.Needs.{needs}
 use Rattle.rules.specs.Below.{firstBelow}
 use Rattle.rules.specs.WellFormed.{blocksIn, isData, isLive}
-use Rattle.roles.proofs.Passes.{isData-by, isLive-by, of-logical, first-turn, seatsTo-is, firstBelow-zero}
+use Rattle.laws.proofs.Below.{first-turn, firstBelow-zero}
+use Rattle.roles.proofs.Passes.{isData-by, isLive-by, of-logical, seatsTo-is}
 use Rattle.roles.proofs.seats.of.Statement.{statement}
 use Rattle.roles.proofs.seats.of.Tie as tie
 
