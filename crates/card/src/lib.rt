@@ -18,7 +18,8 @@ pub fn format(
     logs: usize,
     cut: usize,
 ) -> Answer
-    ensures { λ r. ⌜ given pages logical logs (imageOf (now (bytes .entry)) (now (spare .entry))) (λ s im. Formatted s im cut r (now (bytes .exit)) (now (spare .exit))) ⌝ }
+    ensures { λ r. ⌜ given pages logical logs (imageOf (now (bytes .entry)) (now (spare .entry)))
+        (λ s im. Formatted s im cut r (now (bytes .exit)) (now (spare .exit))) ⌝ }
 {
     let s = Shape::of(pages, logical, logs, bytes.len());
     sweep::format(bytes, spare, s, cut)
@@ -34,7 +35,8 @@ pub fn power_up(
     logs: usize,
     cut: usize,
 ) -> Answer
-    ensures { λ r. ⌜ given pages logical logs (imageOf (now (bytes .entry)) (now (spare .entry))) (λ s im. PoweredUp s im (now (table .entry)) cut r (now (bytes .exit)) (now (spare .exit)) (now (table .exit))) ⌝ }
+    ensures { λ r. ⌜ given pages logical logs (imageOf (now (bytes .entry)) (now (spare .entry)))
+        (λ s im. PoweredUp s im (now (table .entry)) cut r (now (bytes .exit)) (now (spare .exit)) (now (table .exit))) ⌝ }
 {
     let s = Shape::of(pages, logical, logs, bytes.len());
     sweep::power_up(bytes, spare, table, s, cut)
@@ -50,7 +52,8 @@ pub fn read(
     logs: usize,
     number: usize,
 ) -> Answer
-    ensures { λ r. ⌜ given pages logical logs (imageOf (now (bytes .entry)) (now (spare .entry))) (λ s im. ReadDone s im (now (page .entry)) number r (now (page .exit))) ⌝ }
+    ensures { λ r. ⌜ given pages logical logs (imageOf (now (bytes .entry)) (now (spare .entry)))
+        (λ s im. ReadDone s im (now (page .entry)) number r (now (page .exit))) ⌝ }
 {
     let s = Shape::of(pages, logical, logs, bytes.len());
     reading::read(bytes, spare, page, s, number)
@@ -67,7 +70,8 @@ pub fn write(
     number: usize,
     cut: usize,
 ) -> Answer
-    ensures { λ r. ⌜ given pages logical logs (imageOf (now (bytes .entry)) (now (spare .entry))) (λ s im. Written s im number (now (page .entry)) cut r (now (bytes .exit)) (now (spare .exit))) ⌝ }
+    ensures { λ r. ⌜ given pages logical logs (imageOf (now (bytes .entry)) (now (spare .entry)))
+        (λ s im. Written s im number (now (page .entry)) cut r (now (bytes .exit)) (now (spare .exit))) ⌝ }
 {
     let s = Shape::of(pages, logical, logs, bytes.len());
     writing::write(bytes, spare, page, s, number, cut)
@@ -82,7 +86,8 @@ pub fn lend_at(
     logs: usize,
     number: usize,
 ) -> Place
-    ensures { λ r. ⌜ given pages logical logs (imageOf (now (bytes .entry)) (now (spare .entry))) (λ s im. LentAt s im number r) ⌝ }
+    ensures { λ r. ⌜ given pages logical logs (imageOf (now (bytes .entry)) (now (spare .entry)))
+        (λ s im. LentAt s im number r) ⌝ }
 {
     let s = Shape::of(pages, logical, logs, bytes.len());
     reading::place(bytes, spare, s, number)
@@ -97,7 +102,8 @@ pub fn lend<'a>(
     logs: usize,
     number: usize,
 ) -> &'a [u8]
-    ensures { λ r. ⌜ given pages logical logs (imageOf (now (bytes .entry)) (now (spare .entry))) (λ s im. Lent s im number (now r)) ⌝ }
+    ensures { λ r. ⌜ given pages logical logs (imageOf (now (bytes .entry)) (now (spare .entry)))
+        (λ s im. Lent s im number (now r)) ⌝ }
 {
     let s = Shape::of(pages, logical, logs, bytes.len());
     reading::lend(bytes, spare, s, number)

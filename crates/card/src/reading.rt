@@ -11,7 +11,8 @@ use rules::shape::Shape;
 
 // Read, of a card of shape s.
 pub fn read(bytes: &[u8], spare: &[u8], page: &mut [u8], s: Shape, a: usize) -> Answer
-    ensures { λ r. ⌜ ReadDone s (imageOf (now (bytes .entry)) (now (spare .entry))) (now (page .entry)) a r (now (page .exit)) ⌝ }
+    ensures { λ r. ⌜ ReadDone s (imageOf (now (bytes .entry)) (now (spare .entry)))
+        (now (page .entry)) a r (now (page .exit)) ⌝ }
 {
     let first = refusals::of_call(s, bytes.len(), spare.len(), page.len() == 512, a);
     if first != 0 {

@@ -40,7 +40,8 @@ fn erase_all(
     t: Budget,
 ) -> Budget
     requires { ⌜ Within s (length (now bytes)) (length (now spare)) × Numbers s (blocksIn list) ds × Sane t ⌝ }
-    ensures { λ r. ⌜ Does s (λ _. sweepTo all s (blocksIn list) (s .blocks)) t (now (bytes .entry)) (now (spare .entry)) (now (bytes .exit)) (now (spare .exit)) r ⌝ }
+    ensures { λ r. ⌜ Does s (λ _. sweepTo all s (blocksIn list) (s .blocks)) t
+        (now (bytes .entry)) (now (spare .entry)) (now (bytes .exit)) (now (spare .exit)) r ⌝ }
 {
     let blocks = s.blocks;
     let mut u = t;
@@ -56,7 +57,8 @@ fn erase_all(
 
 // Format, of a card of shape s.
 pub fn format(bytes: &mut [u8], spare: &mut [u8], s: Shape, cut: usize) -> Answer
-    ensures { λ r. ⌜ Formatted s (imageOf (now (bytes .entry)) (now (spare .entry))) cut r (now (bytes .exit)) (now (spare .exit)) ⌝ }
+    ensures { λ r. ⌜ Formatted s (imageOf (now (bytes .entry)) (now (spare .entry)))
+        cut r (now (bytes .exit)) (now (spare .exit)) ⌝ }
 {
     if !s.within(bytes.len(), spare.len()) {
         return Answer::Refused(1);
@@ -78,7 +80,8 @@ pub fn power_up(
     s: Shape,
     cut: usize,
 ) -> Answer
-    ensures { λ r. ⌜ PoweredUp s (imageOf (now (bytes .entry)) (now (spare .entry))) (now (table .entry)) cut r (now (bytes .exit)) (now (spare .exit)) (now (table .exit)) ⌝ }
+    ensures { λ r. ⌜ PoweredUp s (imageOf (now (bytes .entry)) (now (spare .entry)))
+        (now (table .entry)) cut r (now (bytes .exit)) (now (spare .exit)) (now (table .exit)) ⌝ }
 {
     let first = refusals::of_call(
         s,

@@ -19,7 +19,8 @@ pub fn write(
     a: usize,
     cut: usize,
 ) -> Answer
-    ensures { λ r. ⌜ Written s (imageOf (now (bytes .entry)) (now (spare .entry))) a (now (page .entry)) cut r (now (bytes .exit)) (now (spare .exit)) ⌝ }
+    ensures { λ r. ⌜ Written s (imageOf (now (bytes .entry)) (now (spare .entry)))
+        a (now (page .entry)) cut r (now (bytes .exit)) (now (spare .exit)) ⌝ }
 {
     let first = refusals::of_call(s, bytes.len(), spare.len(), page.len() == 512, a);
     if first != 0 {

@@ -44,7 +44,8 @@ fn place_if(i: usize, n: usize, p: usize) -> Place
 
 // In the live log block of logical block l, the copy of offset o searched from the last programmed page backwards.
 fn in_log(s: Shape, spare: &[u8], list: [Block; 64], ds: [u32; 64], l: usize, o: usize) -> Place
-    requires { ⌜ Limits s × (length (now spare) ≡ s .blocks * s .pages * 16) × Numbers s (blocksIn list) ds × Filled s (blocksIn list) ⌝ }
+    requires { ⌜ Limits s × (length (now spare) ≡ s .blocks * s .pages * 16) × Numbers s (blocksIn list) ds
+        × Filled s (blocksIn list) ⌝ }
     ensures { λ r. ⌜ InLog s (now (spare .entry)) (blocksIn list) l o r ⌝ }
 {
     let pages = s.pages;
@@ -88,7 +89,8 @@ fn in_data(s: Shape, b: usize, o: usize) -> Place
 
 // The flash page that holds logical page a, if there is one.
 pub fn of(s: Shape, spare: &[u8], list: [Block; 64], ds: [u32; 64], a: usize) -> Place
-    requires { ⌜ Limits s × (length (now spare) ≡ s .blocks * s .pages * 16) × Numbers s (blocksIn list) ds × Filled s (blocksIn list) ⌝ }
+    requires { ⌜ Limits s × (length (now spare) ≡ s .blocks * s .pages * 16) × Numbers s (blocksIn list) ds
+        × Filled s (blocksIn list) ⌝ }
     ensures { λ r. ⌜ Holder s (now (spare .entry)) (blocksIn list) a r ⌝ }
 {
     let pages = s.pages;

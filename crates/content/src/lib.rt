@@ -24,8 +24,10 @@ pub fn fetch(
     ds: [u32; 64],
     a: usize,
 )
-    requires { ⌜ Within s (length (now bytes)) (length (now spare)) × (length (now page) ≡ 512) × Numbers s (blocksIn list) ds × Filled s (blocksIn list) ⌝ }
-    ensures { λ _. ⌜ now (page .exit) ≡ content s (imageOf (now (bytes .entry)) (now (spare .entry))) (blocksIn list) a ⌝ }
+    requires { ⌜ Within s (length (now bytes)) (length (now spare)) × (length (now page) ≡ 512)
+        × Numbers s (blocksIn list) ds × Filled s (blocksIn list) ⌝ }
+    ensures { λ _. ⌜ now (page .exit) ≡ content s (imageOf (now (bytes .entry)) (now (spare .entry)))
+        (blocksIn list) a ⌝ }
 {
     let place = holder::of(s, spare, list, ds, a);
     match place {

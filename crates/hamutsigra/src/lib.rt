@@ -24,7 +24,8 @@ pub extern "C" fn hamutsigra_format(
     logs: usize,
     cut: usize,
 ) -> u64
-    ensures { λ r. ⌜ given pages logical logs (imageOf (now (bytes .entry)) (now (spare .entry))) (λ s im. Result (λ a. Formatted s im cut a (now (bytes .exit)) (now (spare .exit))) r) ⌝ }
+    ensures { λ r. ⌜ given pages logical logs (imageOf (now (bytes .entry)) (now (spare .entry)))
+        (λ s im. Result (λ a. Formatted s im cut a (now (bytes .exit)) (now (spare .exit))) r) ⌝ }
 {
     pack(card::format(bytes, spare, pages, logical, logs, cut))
 }
@@ -40,7 +41,8 @@ pub extern "C" fn hamutsigra_power_up(
     logs: usize,
     cut: usize,
 ) -> u64
-    ensures { λ r. ⌜ given pages logical logs (imageOf (now (bytes .entry)) (now (spare .entry))) (λ s im. Result (λ a. PoweredUp s im (now (table .entry)) cut a (now (bytes .exit)) (now (spare .exit)) (now (table .exit))) r) ⌝ }
+    ensures { λ r. ⌜ given pages logical logs (imageOf (now (bytes .entry)) (now (spare .entry)))
+        (λ s im. Result (λ a. PoweredUp s im (now (table .entry)) cut a (now (bytes .exit)) (now (spare .exit)) (now (table .exit))) r) ⌝ }
 {
     pack(card::power_up(bytes, spare, table, pages, logical, logs, cut))
 }
@@ -56,7 +58,8 @@ pub extern "C" fn hamutsigra_read(
     logs: usize,
     number: usize,
 ) -> u64
-    ensures { λ r. ⌜ given pages logical logs (imageOf (now (bytes .entry)) (now (spare .entry))) (λ s im. Result (λ a. ReadDone s im (now (page .entry)) number a (now (page .exit))) r) ⌝ }
+    ensures { λ r. ⌜ given pages logical logs (imageOf (now (bytes .entry)) (now (spare .entry)))
+        (λ s im. Result (λ a. ReadDone s im (now (page .entry)) number a (now (page .exit))) r) ⌝ }
 {
     pack(card::read(bytes, spare, page, pages, logical, logs, number))
 }
@@ -73,7 +76,8 @@ pub extern "C" fn hamutsigra_write(
     number: usize,
     cut: usize,
 ) -> u64
-    ensures { λ r. ⌜ given pages logical logs (imageOf (now (bytes .entry)) (now (spare .entry))) (λ s im. Result (λ a. Written s im number (now (page .entry)) cut a (now (bytes .exit)) (now (spare .exit))) r) ⌝ }
+    ensures { λ r. ⌜ given pages logical logs (imageOf (now (bytes .entry)) (now (spare .entry)))
+        (λ s im. Result (λ a. Written s im number (now (page .entry)) cut a (now (bytes .exit)) (now (spare .exit))) r) ⌝ }
 {
     pack(card::write(bytes, spare, page, pages, logical, logs, number, cut))
 }
@@ -88,7 +92,8 @@ pub extern "C" fn hamutsigra_lend(
     logs: usize,
     number: usize,
 ) -> u64
-    ensures { λ r. ⌜ given pages logical logs (imageOf (now (bytes .entry)) (now (spare .entry))) (λ s im. LentFrom s im number r) ⌝ }
+    ensures { λ r. ⌜ given pages logical logs (imageOf (now (bytes .entry)) (now (spare .entry)))
+        (λ s im. LentFrom s im number r) ⌝ }
 {
     let lent = card::lend_at(bytes, spare, pages, logical, logs, number);
     match lent {

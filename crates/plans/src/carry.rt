@@ -34,8 +34,10 @@ fn copy_page(
     o: usize,
     t: Budget,
 ) -> Budget
-    requires { ⌜ Within s (length (now bytes)) (length (now spare)) × Numbers s (blocksIn list) ds × Filled s (blocksIn list) × (l ≤ 65535) × (f < s .blocks) × (o < s .pages) × Sane t ⌝ }
-    ensures { λ r. ⌜ Does s (λ im. copyAt s im (blocksIn list) l f n o ∷ []) t (now (bytes .entry)) (now (spare .entry)) (now (bytes .exit)) (now (spare .exit)) r ⌝ }
+    requires { ⌜ Within s (length (now bytes)) (length (now spare)) × Numbers s (blocksIn list) ds
+        × Filled s (blocksIn list) × (l ≤ 65535) × (f < s .blocks) × (o < s .pages) × Sane t ⌝ }
+    ensures { λ r. ⌜ Does s (λ im. copyAt s im (blocksIn list) l f n o ∷ []) t
+        (now (bytes .entry)) (now (spare .entry)) (now (bytes .exit)) (now (spare .exit)) r ⌝ }
 {
     let pages = s.pages;
     let a = l * pages + o;
@@ -63,8 +65,11 @@ fn copy_all(
     n: u32,
     t: Budget,
 ) -> Budget
-    requires { ⌜ Within s (length (now bytes)) (length (now spare)) × Numbers s (blocksIn list) ds × Filled s (blocksIn list) × (l ≤ 65535) × (f < s .blocks) × Kept s (imageOf (now bytes) (now spare)) (blocksIn list) l f n × Sane t ⌝ }
-    ensures { λ r. ⌜ Does s (λ im. listBelow (s .pages) (copyAt s im (blocksIn list) l f n)) t (now (bytes .entry)) (now (spare .entry)) (now (bytes .exit)) (now (spare .exit)) r ⌝ }
+    requires { ⌜ Within s (length (now bytes)) (length (now spare)) × Numbers s (blocksIn list) ds
+        × Filled s (blocksIn list) × (l ≤ 65535) × (f < s .blocks)
+        × Kept s (imageOf (now bytes) (now spare)) (blocksIn list) l f n × Sane t ⌝ }
+    ensures { λ r. ⌜ Does s (λ im. listBelow (s .pages) (copyAt s im (blocksIn list) l f n)) t
+        (now (bytes .entry)) (now (spare .entry)) (now (bytes .exit)) (now (spare .exit)) r ⌝ }
 {
     let pages = s.pages;
     let mut u = t;
@@ -79,7 +84,8 @@ fn copy_all(
 // Erases block b, if there is one.
 fn erase_found(bytes: &mut [u8], spare: &mut [u8], s: Shape, b: usize, t: Budget) -> Budget
     requires { ⌜ Within s (length (now bytes)) (length (now spare)) × BlockOrNone s b × Sane t ⌝ }
-    ensures { λ r. ⌜ Does s (λ _. map erase (ifAny b)) t (now (bytes .entry)) (now (spare .entry)) (now (bytes .exit)) (now (spare .exit)) r ⌝ }
+    ensures { λ r. ⌜ Does s (λ _. map erase (ifAny b)) t
+        (now (bytes .entry)) (now (spare .entry)) (now (bytes .exit)) (now (spare .exit)) r ⌝ }
 {
     budget::erase_if(bytes, spare, s, b != role::NONE, b, t)
 }
@@ -93,8 +99,10 @@ fn merge(
     p: Plan,
     t: Budget,
 ) -> Budget
-    requires { ⌜ Within s (length (now bytes)) (length (now spare)) × Told s (imageOf (now bytes) (now spare)) (blocksIn list) ds p × (p .needed ≡ 2) × Sane t ⌝ }
-    ensures { λ r. ⌜ Does s (λ im. mergeSteps s im (blocksIn list) p) t (now (bytes .entry)) (now (spare .entry)) (now (bytes .exit)) (now (spare .exit)) r ⌝ }
+    requires { ⌜ Within s (length (now bytes)) (length (now spare))
+        × Told s (imageOf (now bytes) (now spare)) (blocksIn list) ds p × (p .needed ≡ 2) × Sane t ⌝ }
+    ensures { λ r. ⌜ Does s (λ im. mergeSteps s im (blocksIn list) p) t
+        (now (bytes .entry)) (now (spare .entry)) (now (bytes .exit)) (now (spare .exit)) r ⌝ }
 {
     let copied = copy_all(bytes, spare, s, list, ds, p.merged, p.into, p.number + 1, t);
     let cleared = erase_found(bytes, spare, s, p.log, copied);
@@ -111,8 +119,10 @@ fn first_steps(
     p: Plan,
     t: Budget,
 ) -> Budget
-    requires { ⌜ Within s (length (now bytes)) (length (now spare)) × Told s (imageOf (now bytes) (now spare)) (blocksIn list) ds p × Sane t ⌝ }
-    ensures { λ r. ⌜ Does s (λ im. firstSteps s im (blocksIn list) p) t (now (bytes .entry)) (now (spare .entry)) (now (bytes .exit)) (now (spare .exit)) r ⌝ }
+    requires { ⌜ Within s (length (now bytes)) (length (now spare))
+        × Told s (imageOf (now bytes) (now spare)) (blocksIn list) ds p × Sane t ⌝ }
+    ensures { λ r. ⌜ Does s (λ im. firstSteps s im (blocksIn list) p) t
+        (now (bytes .entry)) (now (spare .entry)) (now (bytes .exit)) (now (spare .exit)) r ⌝ }
 {
     if p.needed != 2 {
         return t;
@@ -132,8 +142,10 @@ pub fn carry_out(
     a: usize,
     t: Budget,
 ) -> Budget
-    requires { ⌜ Within s (length (now bytes)) (length (now spare)) × (length (now page) ≡ 512) × Told s (imageOf (now bytes) (now spare)) (blocksIn list) ds p × Sane t ⌝ }
-    ensures { λ r. ⌜ Does s (λ im. planned s im (blocksIn list) p a (now (page .entry))) t (now (bytes .entry)) (now (spare .entry)) (now (bytes .exit)) (now (spare .exit)) r ⌝ }
+    requires { ⌜ Within s (length (now bytes)) (length (now spare)) × (length (now page) ≡ 512)
+        × Told s (imageOf (now bytes) (now spare)) (blocksIn list) ds p × Sane t ⌝ }
+    ensures { λ r. ⌜ Does s (λ im. planned s im (blocksIn list) p a (now (page .entry))) t
+        (now (bytes .entry)) (now (spare .entry)) (now (bytes .exit)) (now (spare .exit)) r ⌝ }
 {
     let merged = first_steps(bytes, spare, s, list, ds, p, t);
     let own = spare_bytes(p.number + p.needed, LOG, a);

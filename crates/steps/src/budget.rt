@@ -99,8 +99,10 @@ pub fn program_page(
     marks: &[u8; 16],
     t: Budget,
 ) -> Budget
-    requires { ⌜ Within s (length (now bytes)) (length (now spare)) × (p < s .blocks * s .pages) × (length (now page) ≡ 512) × Sane t ⌝ }
-    ensures { λ r. ⌜ Does s (λ _. program p (now (page .entry)) (now (marks .entry)) ∷ []) t (now (bytes .entry)) (now (spare .entry)) (now (bytes .exit)) (now (spare .exit)) r ⌝ }
+    requires { ⌜ Within s (length (now bytes)) (length (now spare)) × (p < s .blocks * s .pages)
+        × (length (now page) ≡ 512) × Sane t ⌝ }
+    ensures { λ r. ⌜ Does s (λ _. program p (now (page .entry)) (now (marks .entry)) ∷ []) t
+        (now (bytes .entry)) (now (spare .entry)) (now (bytes .exit)) (now (spare .exit)) r ⌝ }
 {
     if t.is_spent() {
         return t.stop();
@@ -119,7 +121,8 @@ pub fn erase_if(
     t: Budget,
 ) -> Budget
     requires { ⌜ Within s (length (now bytes)) (length (now spare)) × (passes ≡ true → b < s .blocks) × Sane t ⌝ }
-    ensures { λ r. ⌜ Does s (λ _. eraseIf passes b) t (now (bytes .entry)) (now (spare .entry)) (now (bytes .exit)) (now (spare .exit)) r ⌝ }
+    ensures { λ r. ⌜ Does s (λ _. eraseIf passes b) t
+        (now (bytes .entry)) (now (spare .entry)) (now (bytes .exit)) (now (spare .exit)) r ⌝ }
 {
     if !passes {
         return t;
