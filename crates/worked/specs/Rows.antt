@@ -47,7 +47,7 @@ pub data Did : Type 0 where
 
 -- what is looked at afterwards
 pub data Look : Type 0 where
-  -- a read of page a gives 512 bytes v. (It is lent 512 bytes of 7, which it would leave if it were refused)
+  -- a read of page a answers 0 and gives 512 bytes v
   reads : ℕ → ℕ → Look
   -- flash page p has 512 bytes v
   bytes : ℕ → ℕ → Look
@@ -137,7 +137,7 @@ filledBy s im (write a n v cut) t = false
 
 -- after the call the image old is im
 abbrev pub seen : Shape → Image → Call → Image → Look → Bool
-seen s old call im (reads a v) = same (pageLeft s im (replicate 512 7) a) (replicate 512 v)
+seen s old call im (reads a v) = eqb (number (readReply s im 512 a .answer)) 0 && same (pageLeft s im (replicate 512 7) a) (replicate 512 v)
 seen s old call im (bytes i v) = same (pageBytes im i) (replicate 512 v)
 seen s old call im (spare i t) = same (pageSpare im i) (t ++ replicate 8 255)
 seen s old call im (table t) = same (tableLeft s im (replicate (2 * s .logical) 7) 99) t
