@@ -50,9 +50,18 @@
  *   - It is lent for the call alone: nothing is kept after it, and nothing but what
  *     is lent is touched.
  *
+ * A chip that is not in the address space:
+ *
+ *   Keep a copy of the chip in memory and lend that. What a command does is fixed by
+ *   the images and the call: the same call on the same images, cut at 1, 2, 3, ..,
+ *   does one step more each time. What two of the images differ in is the next step,
+ *   one page programmed or one block erased, as the counts of the result say. Do it on
+ *   the chip, and go on until the answer is not HAMUTSIGRA_CUT; the images of that call
+ *   are the new copy. examples/c/chip_on_a_bus.c does it.
+ *
  * What a call takes:
  *
- *   - No heap, no recursion, and less than 5,000 bytes of stack on x86-64, whatever
+ *   - No heap, no recursion, and less than 2,200 bytes of stack on x86-64, whatever
  *     the shape (docs/PERFORMANCE.md has the figure of each function).
  *   - The time to read the whole image, however little the command changes.
  *   - memcpy and memset of the platform. Nothing else is linked to.
@@ -69,18 +78,25 @@
 extern "C" {
 #endif
 
+/* A cast in the words of either language: C++ warns about those of C. */
+#ifdef __cplusplus
+#define HAMUTSIGRA_CAST(type, value) static_cast<type>(value)
+#else
+#define HAMUTSIGRA_CAST(type, value) ((type)(value))
+#endif
+
 /* A page has 512 data bytes and 16 spare bytes. */
 #define HAMUTSIGRA_DATA_BYTES 512
 #define HAMUTSIGRA_SPARE_BYTES 16
 
 /* As cut: the card is not pulled out. No list of steps is this long. */
-#define HAMUTSIGRA_NO_CUT ((size_t)-1)
+#define HAMUTSIGRA_NO_CUT HAMUTSIGRA_CAST(size_t, -1)
 
 /* In the table of power-up: no such block. */
-#define HAMUTSIGRA_NO_BLOCK ((uint16_t)65535)
+#define HAMUTSIGRA_NO_BLOCK HAMUTSIGRA_CAST(uint16_t, 65535)
 
 /* From hamutsigra_lend: the part is empty. */
-#define HAMUTSIGRA_NOT_LENT ((uint64_t)-1)
+#define HAMUTSIGRA_NOT_LENT HAMUTSIGRA_CAST(uint64_t, -1)
 
 /*
  * What the card replies. The lowest number that applies is the answer. 1 to 7
@@ -175,17 +191,17 @@ uint64_t hamutsigra_lend(const uint8_t *data, size_t data_len,
  */
 static inline enum hamutsigra_answer hamutsigra_answer_of(uint64_t result)
 {
-    return (enum hamutsigra_answer)(result & 0xff);
+    return HAMUTSIGRA_CAST(enum hamutsigra_answer, result & 0xff);
 }
 
 static inline uint32_t hamutsigra_programs_of(uint64_t result)
 {
-    return (uint32_t)(result >> 8) & 0xffffff;
+    return HAMUTSIGRA_CAST(uint32_t, result >> 8) & 0xffffff;
 }
 
 static inline uint32_t hamutsigra_erases_of(uint64_t result)
 {
-    return (uint32_t)(result >> 32);
+    return HAMUTSIGRA_CAST(uint32_t, result >> 32);
 }
 
 #ifdef __cplusplus

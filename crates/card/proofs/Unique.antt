@@ -1,4 +1,4 @@
--- One possible answer: what a command promises leaves one answer and one content of each buffer lent to it. Assumes nothing.
+-- One possible answer: what a command promises leaves one answer and one content of each buffer lent to it.
 use mathlib.Core.Path.{_≡_, sym, _∙_}
 use mathlib.Core.List.{List}
 use Prim.Native.Nat.{ℕ}
@@ -8,7 +8,7 @@ use Rattle.rules.specs.declared.place.Place.{Place}
 use Rattle.rules.specs.declared.answer.Answer.{Answer}
 use Rattle.rules.specs.Page.{Image}
 use Rattle.rules.specs.Replies.{Reply, lentPage}
-use Rattle.card.specs.Promises.{Replied, Formatted, PoweredUp, ReadDone, Written, LentAt, Lent}
+use Rattle.rules.specs.Promises.{Replied, FormatDone, PowerUpDone, ReadDone, WriteDone, LentAt, Lent}
 
 -- two that are both the definition's value are one
 one : {A : Type 0} {x y v : A} → x ≡ v → y ≡ v → x ≡ y
@@ -20,22 +20,22 @@ module _ (s : Shape) (im : Image) where
       → (r ≡ r′) × (bytes ≡ bytes′) × (spare ≡ spare′)
   replied-one reply h k = (one (h .answer) (k .answer), one (h .bytes-left) (k .bytes-left), one (h .spare-left) (k .spare-left))
 
-  pub format-one : (cut : ℕ) {r r′ : Answer} {bytes bytes′ spare spare′ : List ℕ} → Formatted s im cut r bytes spare
-      → Formatted s im cut r′ bytes′ spare′
+  pub format-one : (cut : ℕ) {r r′ : Answer} {bytes bytes′ spare spare′ : List ℕ} → FormatDone s im cut r bytes spare
+      → FormatDone s im cut r′ bytes′ spare′
       → (r ≡ r′) × (bytes ≡ bytes′) × (spare ≡ spare′)
   format-one cut h k = replied-one _ h k
 
   pub powerUp-one : (old : List ℕ) (cut : ℕ) {r r′ : Answer} {bytes bytes′ spare spare′ table table′ : List ℕ}
-      → PoweredUp s im old cut r bytes spare table
-      → PoweredUp s im old cut r′ bytes′ spare′ table′ → ((r ≡ r′) × (bytes ≡ bytes′) × (spare ≡ spare′)) × (table ≡ table′)
+      → PowerUpDone s im old cut r bytes spare table
+      → PowerUpDone s im old cut r′ bytes′ spare′ table′ → ((r ≡ r′) × (bytes ≡ bytes′) × (spare ≡ spare′)) × (table ≡ table′)
   powerUp-one old cut h k = (replied-one _ (h .replied) (k .replied), one (h .table-left) (k .table-left))
 
   pub read-one : (old : List ℕ) (a : ℕ) {r r′ : Answer} {page page′ : List ℕ} → ReadDone s im old a r page → ReadDone s im old a r′ page′
       → (r ≡ r′) × (page ≡ page′)
   read-one old a h k = (one (h .answer) (k .answer), one (h .page-left) (k .page-left))
 
-  pub write-one : (a : ℕ) (page : List ℕ) (cut : ℕ) {r r′ : Answer} {bytes bytes′ spare spare′ : List ℕ} → Written s im a page cut r bytes spare
-      → Written s im a page cut r′ bytes′ spare′ → (r ≡ r′) × (bytes ≡ bytes′) × (spare ≡ spare′)
+  pub write-one : (a : ℕ) (page : List ℕ) (cut : ℕ) {r r′ : Answer} {bytes bytes′ spare spare′ : List ℕ} → WriteDone s im a page cut r bytes spare
+      → WriteDone s im a page cut r′ bytes′ spare′ → (r ≡ r′) × (bytes ≡ bytes′) × (spare ≡ spare′)
   write-one a page cut h k = replied-one _ h k
 
   pub lend-one : (a : ℕ) {part part′ : List ℕ} → Lent s im a part → Lent s im a part′ → part ≡ part′

@@ -1,13 +1,9 @@
 // The card: format, power-up, read, write and page lending, over a lent image. Each takes any slices and any numbers.
 ghost use Rattle.rules.specs.Facts.{imageOf};
-ghost use Rattle.card.specs.Promises.{given, Formatted, PoweredUp, ReadDone, Written, LentAt, Lent};
+ghost use Rattle.rules.specs.Promises.{given, FormatDone, PowerUpDone, ReadDone, WriteDone, LentAt, Lent};
 use rules::answer::Answer;
 use rules::place::Place;
 use rules::shape::Shape;
-
-mod reading;
-mod sweep;
-mod writing;
 
 // Erases each good block that is not free.
 pub fn format(
@@ -19,7 +15,7 @@ pub fn format(
     cut: usize,
 ) -> Answer
     ensures { λ r. ⌜ given pages logical logs (imageOf (now (bytes .entry)) (now (spare .entry)))
-        (λ s im. Formatted s im cut r (now (bytes .exit)) (now (spare .exit))) ⌝ }
+        (λ s im. FormatDone s im cut r (now (bytes .exit)) (now (spare .exit))) ⌝ }
 {
     let s = Shape::of(pages, logical, logs, bytes.len());
     sweep::format(bytes, spare, s, cut)
@@ -36,7 +32,7 @@ pub fn power_up(
     cut: usize,
 ) -> Answer
     ensures { λ r. ⌜ given pages logical logs (imageOf (now (bytes .entry)) (now (spare .entry)))
-        (λ s im. PoweredUp s im (now (table .entry)) cut r (now (bytes .exit)) (now (spare .exit)) (now (table .exit))) ⌝ }
+        (λ s im. PowerUpDone s im (now (table .entry)) cut r (now (bytes .exit)) (now (spare .exit)) (now (table .exit))) ⌝ }
 {
     let s = Shape::of(pages, logical, logs, bytes.len());
     sweep::power_up(bytes, spare, table, s, cut)
@@ -71,7 +67,7 @@ pub fn write(
     cut: usize,
 ) -> Answer
     ensures { λ r. ⌜ given pages logical logs (imageOf (now (bytes .entry)) (now (spare .entry)))
-        (λ s im. Written s im number (now (page .entry)) cut r (now (bytes .exit)) (now (spare .exit))) ⌝ }
+        (λ s im. WriteDone s im number (now (page .entry)) cut r (now (bytes .exit)) (now (spare .exit))) ⌝ }
 {
     let s = Shape::of(pages, logical, logs, bytes.len());
     writing::write(bytes, spare, page, s, number, cut)

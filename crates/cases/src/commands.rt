@@ -68,7 +68,7 @@ fn digit(letter: u8) -> usize {
 }
 
 // Runs the command of one word, and writes its line.
-pub fn run(bytes: &mut [u8], spare: &mut [u8], logs: usize, word: &[u8])
+pub(crate) fn run(bytes: &mut [u8], spare: &mut [u8], logs: usize, word: &[u8])
     requires { ⌜ length (now word) ≡ 6 ⌝ }
 {
     lines::text(word);

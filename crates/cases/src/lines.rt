@@ -3,7 +3,7 @@ use libc::STDOUT_FILENO;
 use rules::answer::Answer;
 use std::num::wrapping_add_usize;
 
-pub fn text(letters: &[u8]) {
+pub(crate) fn text(letters: &[u8]) {
     io::write_all(STDOUT_FILENO, letters);
 }
 
@@ -13,14 +13,14 @@ fn number(n: usize) {
 }
 
 // The number of an answer, its programs and its erases.
-pub fn answer(a: Answer) {
+pub(crate) fn answer(a: Answer) {
     number(a.number() as usize);
     number(a.programs());
     number(a.erases());
 }
 
 // Power-up's table.
-pub fn table(t: [u16; 4]) {
+pub(crate) fn table(t: [u16; 4]) {
     number(t[0] as usize);
     number(t[1] as usize);
     number(t[2] as usize);
@@ -33,7 +33,7 @@ fn wide(x: u8) -> usize {
 
 // The sum of each byte times its place, from 1 on. A byte in front moves the others a place on: `placed` grows by the sum of all.
 // No sum here wraps: there are at most 133,120 bytes.
-pub fn sum(bytes: &[u8]) {
+pub(crate) fn sum(bytes: &[u8]) {
     let mut all = 0;
     let mut placed = 0;
     let mut i = bytes.len();
@@ -46,7 +46,7 @@ pub fn sum(bytes: &[u8]) {
 }
 
 // The end of a line: the sums of the data bytes and of the spare bytes.
-pub fn image(bytes: &[u8], spare: &[u8]) {
+pub(crate) fn image(bytes: &[u8], spare: &[u8]) {
     sum(bytes);
     sum(spare);
     text(b"\n");

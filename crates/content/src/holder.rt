@@ -1,31 +1,33 @@
 // Where the content of a logical page is.
 ghost use mathlib.Core.Path.{_≡_};
 ghost use mathlib.Core.Bool.{_&&_};
-ghost use Prim.Native.Nat.{_*_, _<_};
+ghost use Prim.Native.Nat.{_*_, _<_, _≤_};
 ghost use lib.Dec.{eqb};
 ghost use lib.ListN.{length};
 ghost use Rattle.rules.specs.Bytes.{part};
 ghost use Rattle.rules.specs.Spare.{addressIn};
-ghost use Rattle.rules.specs.Shape.{offsetOf};
+ghost use Rattle.rules.specs.Shape.{pageNo, offsetOf};
 ghost use Rattle.rules.specs.Facts.{Limits};
-ghost use Rattle.rules.specs.WellFormed.{blocksIn};
-ghost use Rattle.roles.specs.Passes.{Numbers, isLiveBy, BlockOrNone};
-ghost use Rattle.content.specs.Places.{Filled, PlaceIn, ifBelow, dataPlace, InLog, Holder};
+ghost use Rattle.rules.specs.WellFormed.{isLiveBy};
+ghost use Rattle.words.specs.Words.{recordsIn};
+ghost use Rattle.roles.specs.Passes.{Numbers, BlockOrNone};
+ghost use Rattle.content.specs.Places.{PlaceIn, pageIf, logPlace, dataPlace, Holder};
 use nand::spare::address_in;
 use roles::role;
 use roles::seats;
 use rules::block::Block;
 use rules::place::Place;
+use rules::shape::MOST;
 use rules::shape::Shape;
 use rules::test;
 
-// The offset that the spare bytes of page p say.
-fn offset_at(s: Shape, spare: &[u8], p: usize) -> usize
-    requires { ⌜ Limits s × (length (now spare) ≡ s .blocks * s .pages * 16) × (p < s .blocks * s .pages) ⌝ }
-    ensures { λ r. ⌜ r ≡ offsetOf s (addressIn (part (now (spare .entry)) (p * 16) 16)) ⌝ }
+// The offset that the spare bytes of page i of block b say.
+fn offset_at(s: Shape, spare: &[u8], b: usize, i: usize) -> usize
+    requires { ⌜ Limits s × (length (now spare) ≡ s .blocks * s .pages * 16) × (b < s .blocks) × (i < s .pages) ⌝ }
+    ensures { λ r. ⌜ r ≡ offsetOf s (addressIn (part (now (spare .entry)) (pageNo s b i * 16) 16)) ⌝ }
 {
     let pages = s.pages;
-    let at = s.page_spare(p);
+    let at = s.page_spare(s.page_no(b, i));
     address_in(&spare[at..at + 16]) as usize % pages
 }
 
@@ -35,40 +37,50 @@ fn is_log_of(s: Shape, x: Block, d: u32, l: usize) -> bool
     test::and(role::is_live(s, x, d), x.logical as usize == l)
 }
 
-// Page p, where i is below n.
-fn place_if(i: usize, n: usize, p: usize) -> Place
-    ensures { λ r. ⌜ r ≡ ifBelow i n p ⌝ }
+// Page i of block b, if i is below n.
+fn page_if(s: Shape, b: usize, i: usize, n: usize) -> Place
+    requires { ⌜ Limits s × (b < s .blocks) × (n ≤ s .pages) ⌝ }
+    ensures { λ r. ⌜ (r ≡ pageIf s b i n) × PlaceIn s r ⌝ }
 {
-    if i < n { Place::At(p) } else { Place::Nowhere }
+    if i < n {
+        Place::At(s.page_no(b, i))
+    } else {
+        Place::Nowhere
+    }
 }
 
 // In the live log block of logical block l, the copy of offset o searched from the last programmed page backwards.
-fn in_log(s: Shape, spare: &[u8], list: [Block; 64], ds: [u32; 64], l: usize, o: usize) -> Place
-    requires { ⌜ Limits s × (length (now spare) ≡ s .blocks * s .pages * 16) × Numbers s (blocksIn list) ds
-        × Filled s (blocksIn list) ⌝ }
-    ensures { λ r. ⌜ InLog s (now (spare .entry)) (blocksIn list) l o r ⌝ }
+fn in_log<'a>(
+    s: Shape,
+    spare: &[u8],
+    list: &'a [u64; MOST],
+    numbers: &'a [u32; MOST],
+    l: usize,
+    o: usize,
+) -> Place
+    requires { ⌜ Limits s × (length (now spare) ≡ s .blocks * s .pages * 16) × Numbers s (recordsIn (now list)) (now numbers) ⌝ }
+    ensures { λ r. ⌜ (r ≡ logPlace s (now (spare .entry)) (recordsIn (now (list .entry))) l o) × PlaceIn s r ⌝ }
 {
-    let pages = s.pages;
     let blocks = s.blocks;
     let mut found = Place::Nowhere;
     let mut b = 0;
     'scan: while b < blocks {
-        let x = list[b];
-        let d = ds[b];
+        let x = words::unpack(list[b]);
+        let at = x.logical as usize;
+        let d = numbers[at];
         if is_log_of(s, x, d, l) {
-            let first = b * pages;
             let n = x.filled as usize;
             let mut i = n;
-            let at = loop {
+            let position = loop {
                 if i == 0 {
                     break n;
                 }
                 i -= 1;
-                if offset_at(s, spare, first + i) == o {
+                if offset_at(s, spare, b, i) == o {
                     break i;
                 }
             };
-            found = place_if(at, n, first + at);
+            found = page_if(s, b, position, n);
             break 'scan;
         }
         b += 1;
@@ -79,7 +91,7 @@ fn in_log(s: Shape, spare: &[u8], list: [Block; 64], ds: [u32; 64], l: usize, o:
 // The page at offset o in data block b, if there is one.
 fn in_data(s: Shape, b: usize, o: usize) -> Place
     requires { ⌜ Limits s × BlockOrNone s b × (o < s .pages) ⌝ }
-    ensures { λ r. ⌜ (r ≡ dataPlace s b o) × PlaceIn r (s .blocks * s .pages) ⌝ }
+    ensures { λ r. ⌜ (r ≡ dataPlace s b o) × PlaceIn s r ⌝ }
 {
     if b == role::NONE {
         return Place::Nowhere;
@@ -88,20 +100,25 @@ fn in_data(s: Shape, b: usize, o: usize) -> Place
 }
 
 // The flash page that holds logical page a, if there is one.
-pub fn of(s: Shape, spare: &[u8], list: [Block; 64], ds: [u32; 64], a: usize) -> Place
-    requires { ⌜ Limits s × (length (now spare) ≡ s .blocks * s .pages * 16) × Numbers s (blocksIn list) ds
-        × Filled s (blocksIn list) ⌝ }
-    ensures { λ r. ⌜ Holder s (now (spare .entry)) (blocksIn list) a r ⌝ }
+pub fn of<'a>(
+    s: Shape,
+    spare: &[u8],
+    list: &'a [u64; MOST],
+    numbers: &'a [u32; MOST],
+    a: usize,
+) -> Place
+    requires { ⌜ Limits s × (length (now spare) ≡ s .blocks * s .pages * 16) × Numbers s (recordsIn (now list)) (now numbers) ⌝ }
+    ensures { λ r. ⌜ Holder s (now (spare .entry)) (recordsIn (now (list .entry))) a r ⌝ }
 {
     let pages = s.pages;
     let l = a / pages;
     let o = a % pages;
-    let newest = in_log(s, spare, list, ds, l, o);
+    let newest = in_log(s, spare, list, numbers, l, o);
     match newest {
         Place::At(p) => Place::At(p),
         Place::Nowhere => {
-            let t = seats::of(s, list, ds, l);
-            in_data(s, t.base, o)
+            let t = seats::of(s, list, numbers, l);
+            in_data(s, t.data, o)
         }
     }
 }

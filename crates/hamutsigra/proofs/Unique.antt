@@ -1,11 +1,11 @@
--- One possible answer: what a function promises leaves one number and one content of each buffer lent to it. Assumes nothing.
+-- One possible answer: what a function promises leaves one number and one content of each buffer lent to it.
 use mathlib.Core.Path.{_≡_, sym, ap, _∙_}
 use mathlib.Core.List.{List}
 use Prim.Native.Nat.{ℕ}
 use Rattle.rules.specs.declared.shape.Shape.{Shape}
 use Rattle.rules.specs.declared.answer.Answer.{Answer}
 use Rattle.rules.specs.Page.{Image}
-use Rattle.card.specs.Promises.{Formatted, PoweredUp, ReadDone, Written}
+use Rattle.rules.specs.Promises.{FormatDone, PowerUpDone, ReadDone, WriteDone}
 use Rattle.card.proofs.Unique as card
 use Rattle.hamutsigra.specs.Results.{packed, Result, lentByte, LentFrom}
 
@@ -15,18 +15,18 @@ result-one x y e = x .packs ∙ ap packed e ∙ sym (y .packs)
 
 module _ (s : Shape) (im : Image) {r r′ : ℕ} where
   module _ {bytes bytes′ spare spare′ : List ℕ} where
-    pub format-one : (cut : ℕ) → Result (λ a. Formatted s im cut a bytes spare) r → Result (λ a. Formatted s im cut a bytes′ spare′) r′
+    pub format-one : (cut : ℕ) → Result (λ a. FormatDone s im cut a bytes spare) r → Result (λ a. FormatDone s im cut a bytes′ spare′) r′
         → (r ≡ r′) × (bytes ≡ bytes′) × (spare ≡ spare′)
     format-one cut x y = let e = card.format-one s im cut (x .kept) (y .kept) in (result-one x y (e .0), e .1, e .2)
 
-    pub powerUp-one : (old : List ℕ) (cut : ℕ) {table table′ : List ℕ} → Result (λ a. PoweredUp s im old cut a bytes spare table) r
-        → Result (λ a. PoweredUp s im old cut a bytes′ spare′ table′) r′ → (r ≡ r′) × (bytes ≡ bytes′) × (spare ≡ spare′) × (table ≡ table′)
+    pub powerUp-one : (old : List ℕ) (cut : ℕ) {table table′ : List ℕ} → Result (λ a. PowerUpDone s im old cut a bytes spare table) r
+        → Result (λ a. PowerUpDone s im old cut a bytes′ spare′ table′) r′ → (r ≡ r′) × (bytes ≡ bytes′) × (spare ≡ spare′) × (table ≡ table′)
     powerUp-one old cut x y =
         let e = card.powerUp-one s im old cut (x .kept) (y .kept) in
         (result-one x y (e .0 .0), e .0 .1, e .0 .2, e .1)
 
-    pub write-one : (n : ℕ) (page : List ℕ) (cut : ℕ) → Result (λ a. Written s im n page cut a bytes spare) r
-        → Result (λ a. Written s im n page cut a bytes′ spare′) r′ → (r ≡ r′) × (bytes ≡ bytes′) × (spare ≡ spare′)
+    pub write-one : (n : ℕ) (page : List ℕ) (cut : ℕ) → Result (λ a. WriteDone s im n page cut a bytes spare) r
+        → Result (λ a. WriteDone s im n page cut a bytes′ spare′) r′ → (r ≡ r′) × (bytes ≡ bytes′) × (spare ≡ spare′)
     write-one n page cut x y = let e = card.write-one s im n page cut (x .kept) (y .kept) in (result-one x y (e .0), e .1, e .2)
 
   pub read-one : (old : List ℕ) (n : ℕ) {page page′ : List ℕ} → Result (λ a. ReadDone s im old n a page) r

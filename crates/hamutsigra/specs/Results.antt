@@ -1,4 +1,4 @@
--- What C is given: an answer as one number of 64 bits, and a lent page by the byte where it starts. Assumes nothing.
+-- What C is given: an answer as one number of 64 bits, and a lent page by the byte where it starts.
 use mathlib.Core.Path.{_≡_}
 use Prim.Native.Nat.{ℕ, _+_, _*_, _<_}
 use Rattle.rules.specs.declared.shape.Shape.{Shape}
@@ -7,7 +7,7 @@ use Rattle.rules.specs.declared.place.Place.the-variants.{At, Nowhere}
 use Rattle.rules.specs.declared.answer.Answer.{Answer}
 use Rattle.rules.specs.Page.{Image}
 use Rattle.rules.specs.Replies.{number, programsOf, erasesOf}
-use Rattle.card.specs.Promises.{LentAt}
+use Rattle.rules.specs.Promises.{LentAt}
 
 -- the answer's number in bits 0 to 7, its programs in bits 8 to 31, its erases in bits 32 to 63
 abbrev pub packed : Answer → ℕ

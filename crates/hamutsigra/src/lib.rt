@@ -1,7 +1,7 @@
 // The commands for C and C++, as include/hamutsigra.h declares them: each slice is a pointer and a length there.
 ghost use mathlib.Core.Path.{_≡_};
 ghost use Rattle.rules.specs.Facts.{imageOf};
-ghost use Rattle.card.specs.Promises.{given, Formatted, PoweredUp, ReadDone, Written};
+ghost use Rattle.rules.specs.Promises.{given, FormatDone, PowerUpDone, ReadDone, WriteDone};
 ghost use Rattle.hamutsigra.specs.Results.{packed, InBits, Result, LentFrom};
 use rules::answer::Answer;
 use rules::place::Place;
@@ -25,7 +25,7 @@ pub extern "C" fn hamutsigra_format(
     cut: usize,
 ) -> u64
     ensures { λ r. ⌜ given pages logical logs (imageOf (now (bytes .entry)) (now (spare .entry)))
-        (λ s im. Result (λ a. Formatted s im cut a (now (bytes .exit)) (now (spare .exit))) r) ⌝ }
+        (λ s im. Result (λ a. FormatDone s im cut a (now (bytes .exit)) (now (spare .exit))) r) ⌝ }
 {
     pack(card::format(bytes, spare, pages, logical, logs, cut))
 }
@@ -42,7 +42,7 @@ pub extern "C" fn hamutsigra_power_up(
     cut: usize,
 ) -> u64
     ensures { λ r. ⌜ given pages logical logs (imageOf (now (bytes .entry)) (now (spare .entry)))
-        (λ s im. Result (λ a. PoweredUp s im (now (table .entry)) cut a (now (bytes .exit)) (now (spare .exit)) (now (table .exit))) r) ⌝ }
+        (λ s im. Result (λ a. PowerUpDone s im (now (table .entry)) cut a (now (bytes .exit)) (now (spare .exit)) (now (table .exit))) r) ⌝ }
 {
     pack(card::power_up(bytes, spare, table, pages, logical, logs, cut))
 }
@@ -77,7 +77,7 @@ pub extern "C" fn hamutsigra_write(
     cut: usize,
 ) -> u64
     ensures { λ r. ⌜ given pages logical logs (imageOf (now (bytes .entry)) (now (spare .entry)))
-        (λ s im. Result (λ a. Written s im number (now (page .entry)) cut a (now (bytes .exit)) (now (spare .exit))) r) ⌝ }
+        (λ s im. Result (λ a. WriteDone s im number (now (page .entry)) cut a (now (bytes .exit)) (now (spare .exit))) r) ⌝ }
 {
     pack(card::write(bytes, spare, page, pages, logical, logs, number, cut))
 }

@@ -1,11 +1,12 @@
--- What the replies say: the refusals as facts, and the number and the erases of an answer. Assumes nothing.
+-- What the replies say: the refusals as facts, and the number and the erases of an answer.
 use mathlib.Core.Path.{_≡_, refl, ap}
 use mathlib.Core.Logic.{_⊎_, inl, inr}
 use mathlib.Core.Bool.{Bool, true, false, not, cond}
 use mathlib.Core.List.{List}
-use Prim.Native.Nat.{ℕ, suc, _+_, _*_, _≤_, _<_}
+use Prim.Native.Nat.{ℕ, zero, suc, _+_, _*_, _≤_, _<_}
 use native.Mathlib.Omega.{arith}
 use lib.ListN.{length, take}
+use lib.Seq.{take-all}
 use lib.Dec.{T, ltb, eqb, eqb→eq, T-not, not-T, lt→ltb, nltb→le}
 use Rattle.rules.specs.declared.shape.Shape.{Shape}
 use Rattle.rules.specs.declared.answer.Answer.the-variants.{Done, Cut}
@@ -14,20 +15,17 @@ use Rattle.rules.specs.Shape.{goodNeeded, blockOf, inRange, withinLimits}
 use Rattle.rules.specs.Page.{Image}
 use Rattle.rules.specs.WellFormed.{Blocks, blocksOf, wellFormed}
 use Rattle.rules.specs.Steps.{Step, programs, erases, highest, writeCase, numbersNeeded}
-use Rattle.rules.specs.Replies.{number, erasesOf, goodBlocks, outsideLimits, tooFewGood, unrecovered, outOfNumbers, powerUpRefusal, readRefusal, writeRefusal, carriedOut}
+use Rattle.rules.specs.Replies.{number, programsOf, erasesOf, goodBlocks, outsideLimits, tooFewGood, unrecovered, outOfNumbers, powerUpRefusal, readRefusal, writeRefusal, unless, refusedBy, carriedOut, powerUpTests, readTests, writeTests}
+use Rattle.laws.proofs.First.{first-none, first-by}
 use Rattle.laws.proofs.Tests.{cond-yes, cond-no, dec-lt, nlt→ltb}
 use Rattle.laws.proofs.Shape.{withinLimits-within, within-withinLimits}
 use Rattle.laws.proofs.Roles.{wellFormed-e, wellFormed-i, recovered-e, recovered-i, Recovered}
 use Rattle.laws.proofs.Records.{blocksOf-records}
+use Rattle.history.specs.History.{Tells}
 use Rattle.history.specs.Demands.{RecoveredCard}
 use Rattle.laws.proofs.Erasing.{Sound}
 
 -- ---- refusals as facts
-
--- the first refusal of a chain does not apply, and none after it
-pub chain-zero : (b : Bool) (n r : ℕ) → cond b (suc n) r ≡ 0 → (T b → ⊥) × (r ≡ 0)
-chain-zero true n r e = absurd (omega arith)
-chain-zero false n r e = ((λ t. t), e)
 
 pub passes : (b : Bool) → (T (not b) → ⊥) → T b
 passes true f = tt
@@ -78,20 +76,14 @@ pub record WriteTaken (s : Shape) (im : Image) (size a : ℕ) : Type 0 where
 pub write-taken : (s : Shape) (im : Image) (size a : ℕ) → writeRefusal s im (blocksOf s im) size a ≡ 0 → WriteTaken s im size a
 unfolding writeRefusal
 write-taken s im size a e =
-    let r₁ = chain-zero (outsideLimits s im) 0 _ e in
-    let r₂ = chain-zero (not (eqb size 512)) 1 _ (r₁ .1) in
-    let r₃ = chain-zero (not (inRange s a)) 2 _ (r₂ .1) in
-    let r₄ = chain-zero (tooFewGood s c′) 3 _ (r₃ .1) in
-    let r₅ = chain-zero (not (wellFormed s c′)) 4 _ (r₄ .1) in
-    let r₆ = chain-zero (unrecovered s c′) 5 _ (r₅ .1) in
-    let r₇ = chain-zero (outOfNumbers s c′ (blockOf s a)) 6 0 (r₆ .1) in
-    let w = sound-of s im (r₁ .0) (r₄ .0) (passes (wellFormed s c′) (r₅ .0)) in
+    let (f₁, (f₂, (f₃, (f₄, (f₅, (f₆, (f₇, _))))))) = first-none (writeTests s im c′ size a) tt e in
+    let w = sound-of s im f₁ f₄ (passes (wellFormed s c′) f₅) in
     record {
       sound = w;
-      long = eqb→eq size 512 (passes (eqb size 512) (r₂ .0));
-      inside = passes (inRange s a) (r₃ .0);
-      clean = recovered-e s c′ (w .wf .records) (r₆ .0);
-      fit = nltb→le numberLimit (highest s c′ + numbersNeeded (writeCase s c′ (blockOf s a))) (not-T (outOfNumbers s c′ (blockOf s a)) (r₇ .0));
+      long = eqb→eq size 512 (passes (eqb size 512) f₂);
+      inside = passes (inRange s a) f₃;
+      clean = recovered-e s c′ (w .wf .records) f₆;
+      fit = nltb→le numberLimit (highest s c′ + numbersNeeded (writeCase s c′ (blockOf s a))) (not-T (outOfNumbers s c′ (blockOf s a)) f₇);
     }
   where
     c′ : Blocks
@@ -105,32 +97,20 @@ pub record ReadTaken (s : Shape) (im : Image) (size a : ℕ) : Type 0 where
 pub read-taken : (s : Shape) (im : Image) (size a : ℕ) → readRefusal s im (blocksOf s im) size a ≡ 0 → ReadTaken s im size a
 unfolding readRefusal
 read-taken s im size a e =
-    let r₁ = chain-zero (outsideLimits s im) 0 _ e in
-    let r₂ = chain-zero (not (eqb size 512)) 1 _ (r₁ .1) in
-    let r₃ = chain-zero (not (inRange s a)) 2 _ (r₂ .1) in
-    let r₄ = chain-zero (tooFewGood s (blocksOf s im)) 3 _ (r₃ .1) in
-    let r₅ = chain-zero (not (wellFormed s (blocksOf s im))) 4 0 (r₄ .1) in
+    let (f₁, (f₂, (f₃, (f₄, (f₅, _))))) = first-none (readTests s im (blocksOf s im) size a) tt e in
     record {
-      sound = sound-of s im (r₁ .0) (r₄ .0) (passes (wellFormed s (blocksOf s im)) (r₅ .0));
-      long = eqb→eq size 512 (passes (eqb size 512) (r₂ .0));
-      inside = passes (inRange s a) (r₃ .0);
+      sound = sound-of s im f₁ f₄ (passes (wellFormed s (blocksOf s im)) f₅);
+      long = eqb→eq size 512 (passes (eqb size 512) f₂);
+      inside = passes (inRange s a) f₃;
     }
 
 pub powerUp-taken : (s : Shape) (im : Image) (size : ℕ) → powerUpRefusal s im (blocksOf s im) size ≡ 0 → Sound s im
 unfolding powerUpRefusal
 powerUp-taken s im size e =
-    let r₁ = chain-zero (outsideLimits s im) 0 _ e in
-    let r₂ = chain-zero (not (eqb size (2 * s .logical))) 1 _ (r₁ .1) in
-    let r₃ = chain-zero (tooFewGood s (blocksOf s im)) 3 _ (r₂ .1) in
-    let r₄ = chain-zero (not (wellFormed s (blocksOf s im))) 4 0 (r₃ .1) in
-    sound-of s im (r₁ .0) (r₃ .0) (passes (wellFormed s (blocksOf s im)) (r₄ .0))
+    let (f₁, (f₂, (f₄, (f₅, _)))) = first-none (powerUpTests s im (blocksOf s im) size) tt e in
+    sound-of s im f₁ f₄ (passes (wellFormed s (blocksOf s im)) f₅)
 
 -- ---- refusals on a sound image: none of 1, 4 and 5 applies
-
--- what holds of the first refusal, if it applies, and of the others holds of the chain
-chain : (Q : ℕ → Type 0) (b : Bool) (n r : ℕ) → (T b → Q n) → Q r → Q (cond b n r)
-chain Q true n r f q = f tt
-chain Q false n r f q = q
 
 module _ (s : Shape) (im : Image) (w : Sound s im) (Q : ℕ → Type 0) where
   abbrev k : Blocks
@@ -139,20 +119,14 @@ module _ (s : Shape) (im : Image) (w : Sound s im) (Q : ℕ → Type 0) where
   pub powerUp-refusal : (size : ℕ) → (T (not (eqb size (2 * s .logical))) → Q 2) → Q 0 → Q (powerUpRefusal s im (blocksOf s im) size)
   unfolding powerUpRefusal
   powerUp-refusal size q2 q0 =
-      chain Q (outsideLimits s im) 1 _ (λ t. absurd (sound-1 s im w t))
-      (chain Q (not (eqb size (2 * s .logical))) 2 _ q2
-      (chain Q (tooFewGood s k) 4 _ (λ t. absurd (sound-4 s im w t))
-      (chain Q (not (wellFormed s k)) 5 0 (λ t. absurd (not-5 s im w t)) q0)))
+      first-by Q (powerUpTests s im k size) ((λ t. absurd (sound-1 s im w t)), (q2, ((λ t. absurd (sound-4 s im w t)), ((λ t. absurd (not-5 s im w t)), tt)))) q0
 
   pub read-refusal : (size a : ℕ) → (T (not (eqb size 512)) → Q 2) → (T (not (inRange s a)) → Q 3) → Q 0
       → Q (readRefusal s im (blocksOf s im) size a)
   unfolding readRefusal
   read-refusal size a q2 q3 q0 =
-      chain Q (outsideLimits s im) 1 _ (λ t. absurd (sound-1 s im w t))
-      (chain Q (not (eqb size 512)) 2 _ q2
-      (chain Q (not (inRange s a)) 3 _ q3
-      (chain Q (tooFewGood s k) 4 _ (λ t. absurd (sound-4 s im w t))
-      (chain Q (not (wellFormed s k)) 5 0 (λ t. absurd (not-5 s im w t)) q0))))
+      first-by Q (readTests s im k size a)
+      ((λ t. absurd (sound-1 s im w t)), (q2, (q3, ((λ t. absurd (sound-4 s im w t)), ((λ t. absurd (not-5 s im w t)), tt))))) q0
 
   pub write-refusal : (size a : ℕ) → (T (not (eqb size 512)) → Q 2) → (T (not (inRange s a)) → Q 3) → (T (unrecovered s (blocksOf s im)) → Q 6)
       → (T (outOfNumbers s (blocksOf s im) (blockOf s a)) → Q 7)
@@ -160,13 +134,8 @@ module _ (s : Shape) (im : Image) (w : Sound s im) (Q : ℕ → Type 0) where
       → Q (writeRefusal s im (blocksOf s im) size a)
   unfolding writeRefusal
   write-refusal size a q2 q3 q6 q7 q0 =
-      chain Q (outsideLimits s im) 1 _ (λ t. absurd (sound-1 s im w t))
-      (chain Q (not (eqb size 512)) 2 _ q2
-      (chain Q (not (inRange s a)) 3 _ q3
-      (chain Q (tooFewGood s k) 4 _ (λ t. absurd (sound-4 s im w t))
-      (chain Q (not (wellFormed s k)) 5 _ (λ t. absurd (not-5 s im w t))
-      (chain Q (unrecovered s k) 6 _ q6
-      (chain Q (outOfNumbers s k (blockOf s a)) 7 0 q7 q0))))))
+      first-by Q (writeTests s im k size a)
+      ((λ t. absurd (sound-1 s im w t)), (q2, (q3, ((λ t. absurd (sound-4 s im w t)), ((λ t. absurd (not-5 s im w t)), (q6, (q7, tt))))))) q0
 
 -- ---- replies
 
@@ -179,12 +148,21 @@ module _ (cut : ℕ) (ts : List Step) where
         | inr h ↦ inl (ap number (cond-no (ltb cut (length ts)) _ _ (nlt→ltb cut (length ts) h)), h)
       ]
 
-  pub done-erases : erasesOf (carriedOut cut ts .answer) ≡ erases (take cut ts)
-  done-erases = go (ltb cut (length ts))
-    where
-      p : ℕ
-      p = programs (take cut ts)
+-- answered 0: nothing is refused, and the whole list is done
+pub answered-0 : (n cut : ℕ) (ts : List Step) → number (unless n (refusedBy n) (carriedOut cut ts) .answer) ≡ 0 → (n ≡ 0) × (take cut ts ≡ ts)
+answered-0 zero cut ts e = (refl, elim (done-number cut ts) [ inl q ↦ take-all cut ts (q .1) | inr q ↦ absurd (omega (arith, q .0)) ])
+answered-0 (suc n) cut ts e = absurd (omega arith)
 
-      go : (b : Bool) → erasesOf (cond b (Cut p (erases (take cut ts))) (Done p (erases (take cut ts)))) ≡ erases (take cut ts)
-      go true = refl
-      go false = refl
+pub counts-told : (n cut : ℕ) (ts : List Step) → Tells (unless n (refusedBy n) (carriedOut cut ts))
+counts-told (suc n) cut ts = (refl, refl)
+counts-told zero cut ts = go (ltb cut (length ts))
+  where
+    p : ℕ
+    p = programs (take cut ts)
+
+    e : ℕ
+    e = erases (take cut ts)
+
+    go : (b : Bool) → (programsOf (cond b (Cut p e) (Done p e)) ≡ p) × (erasesOf (cond b (Cut p e) (Done p e)) ≡ e)
+    go true = (refl, refl)
+    go false = (refl, refl)

@@ -1,4 +1,4 @@
--- The pages used in live log blocks, by which erases are paid for. Assumes nothing.
+-- The pages used in live log blocks, by which erases are paid for.
 use mathlib.Core.Path.{_≡_, ap, subst}
 use mathlib.Core.Logic.{_≢_}
 use mathlib.Core.Bool.{Bool, true, false, cond}

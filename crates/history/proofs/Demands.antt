@@ -1,4 +1,4 @@
--- Demands 2 and 3, and that the card never gets stuck: the proofs of the statements in specs/Demands.antt. Assumes nothing.
+-- Demands 2 and 3, and that the card never gets stuck: the proofs of the statements in specs/Demands.antt.
 use mathlib.Core.Path.{_≡_, refl, sym, ap, _∙_, subst, subst₃}
 use mathlib.Core.Logic.{_≢_, _⊎_, inl, inr}
 use mathlib.Core.Bool.{not, _&&_}
@@ -7,7 +7,6 @@ use Prim.Native.Nat.{ℕ, zero, suc, _+_, _*_, _/_, _≤_}
 use native.Mathlib.Omega.{arith}
 use native.Mathlib.Nat.{le-div-iff-mul-le}
 use lib.ListN.{length, take}
-use lib.Seq.{take-all}
 use lib.Dec.{T, eqb, T-not}
 use Rattle.rules.specs.declared.shape.Shape.{Shape}
 use Rattle.rules.specs.declared.place.Place.{Place}
@@ -16,21 +15,22 @@ use Rattle.rules.specs.Shape.{shapeOf, blockOf, inRange}
 use Rattle.rules.specs.Page.{Image}
 use Rattle.rules.specs.WellFormed.{Blocks, isBad, blocksOf, wellFormed}
 use Rattle.rules.specs.Content.{holder, bytesAt, content}
-use Rattle.rules.specs.Steps.{Step, erases, stepsDone, powerUpList, writeList}
-use Rattle.rules.specs.Replies.{number, shapeFor, imageLeft, carriedOut, refusedBy, unless, readRefusal, powerUpRefusal, writeRefusal, readReply, powerUpReply, writeReply, tableOf, tableLeft, pageLeft, lentPage, lentBytes}
+use Rattle.rules.specs.Steps.{formatList, Step, erases, stepsDone, powerUpList, writeList}
+use Rattle.rules.specs.Replies.{formatRefusal, formatReply, number, shapeFor, imageLeft, carriedOut, refusedBy, unless, readRefusal, powerUpRefusal, writeRefusal, readReply, powerUpReply, writeReply, tableOf, tableLeft, pageLeft, lentPage, lentBytes}
 use Rattle.laws.proofs.Tests.{chain-each, eq→eqb}
 use Rattle.laws.proofs.Roles.{Recovered, taken-free}
-use Rattle.history.specs.History.{Command, read, write, powerUp, replyTo, Event, History, format, formattedImage, end, shape, events, pageAfter, lastFrom, lastWrite, counted, wasCut, howMany, erasesIn, FallIn, stepsIn, neverTwice, FindErased, leftAlone}
-use Rattle.history.specs.Demands.{ReadsTheLastWrite, OneMoreCommand, OnAnyImage, LendsWhatIsRead, NeverProgrammedTwice, BadBlocksStay, StaysWellFormed, AtMostTwiceTheWrites, FewLogicalBlocks, ShortLists, RecoveredCard, WriteIsTaken, PowerUpRecovers, TableOfTheImageLeft, WriteLeavesRecovered, ThereIsAFreeBlock}
+use Rattle.history.specs.History.{Command, read, write, powerUp, replyTo, Event, History, format, formattedImage, end, shape, events, pageAfter, lastFrom, lastWrite, doneOrCut, wasCut, howMany, erasesIn, FallIn, stepsIn, neverTwice, FindErased, leftAlone}
+use Rattle.history.specs.Demands.{CountsAreOfTheSteps, ReadsTheLastWrite, OneMoreCommand, OnAnyImage, LendsWhatIsRead, NeverProgrammedTwice, BadBlocksStay, StaysWellFormed, AtMostTwiceTheWrites, FewLogicalBlocks, ShortLists, WriteIsTaken, PowerUpRecovers, TableOfTheImageLeft, WriteLeavesRecovered, ThereIsAFreeBlock, AFreeBlockAfterTheMerge}
 use Rattle.laws.proofs.Along.{AllAllowed, allowed-append}
 use Rattle.laws.proofs.Erasing.{Sound, contentOf, SamePlaces}
+use Rattle.laws.proofs.Cases.{write-cases}
 use Rattle.history.proofs.Cost.{logPages-none}
 use Rattle.history.proofs.Plan.{plan-end, plan-erases}
-use Rattle.history.proofs.Prepare.{none-in, write-cases, pre-goal}
+use Rattle.history.proofs.Prepare.{none-in, pre-goal}
 use Rattle.history.proofs.Write.{theCase, preImage, write-is, write-programs}
-use Rattle.history.proofs.Answers.{sound-5, card-of, of-card, WriteTaken, write-taken, read-taken, powerUp-taken, powerUp-refusal, read-refusal, write-refusal, done-number}
+use Rattle.history.proofs.Answers.{counts-told, sound-5, card-of, of-card, WriteTaken, write-taken, read-taken, powerUp-taken, powerUp-refusal, read-refusal, write-refusal, done-number, answered-0}
 use Rattle.history.proofs.Outcome.{powerUp-cut, powerUp-end, taken-plan, outcome}
-use Rattle.history.proofs.Format.{Formatted, format-done}
+use Rattle.history.proofs.Format.{JustFormatted, format-done}
 use Rattle.history.proofs.Programs.{find-erased, never-twice, bad-alone}
 use Rattle.history.proofs.Histories.{after, eventsOf, one-shape, sound-after, holds-after, allowed-after, wear, wear-few}
 
@@ -40,7 +40,7 @@ module _ (h : History) where
   abbrev s : Shape
   s = shapeFor (h .pages) (h .logical) (h .logs) (h .given)
 
-  start : Formatted s (h .given) (format h)
+  start : JustFormatted s (h .given) (format h)
   start = format-done s (h .given) (h .cut) (h .formatted)
 
   shape-formatted : shapeFor (h .pages) (h .logical) (h .logs) (formattedImage h) ≡ s
@@ -81,7 +81,7 @@ module _ (s : Shape) (im : Image) (w : Sound s im) (buffer : List ℕ) (a : ℕ)
       (λ u. absurd (T-not (inRange s a) u t)) refl
 
   read-gives : pageLeft s im buffer a ≡ contentOf s im a
-  unfolding pageLeft content
+  unfolding pageLeft
   read-gives = rw taken-read refl
 
   read-zero : number (readReply s im (length buffer) a .answer) ≡ 0
@@ -94,18 +94,10 @@ reads-the-last-write h a buffer =
     × (pageLeft z im buffer a ≡ lastWrite es a))
     (λ t long. (read-zero (s h) (im h) (sound h) buffer a long t, read-gives (s h) (im h) (sound h) buffer a long t ∙ holds h a))
 
--- a read that is answered 0 is not refused
-not-refused : (s : Shape) (im : Image) (size a : ℕ) → number (readReply s im size a .answer) ≡ 0 → readRefusal s im (blocksOf s im) size a ≡ 0
-unfolding readReply
-not-refused s im size a = go (readRefusal s im (blocksOf s im) size a)
-  where
-    go : (n : ℕ) → number (unless n (refusedBy n) (carriedOut 0 []) .answer) ≡ 0 → n ≡ 0
-    go zero e = refl
-    go (suc n) e = e
-
 pub on-any-image : OnAnyImage
+unfolding readReply
 on-any-image s im x a buffer e =
-    let t = read-taken s im (length buffer) a (not-refused s im (length buffer) a e) in
+    let t = read-taken s im (length buffer) a (answered-0 (readRefusal s im (blocksOf s im) (length buffer) a) 0 [] e .0) in
     let o = outcome s im (t .sound) x in
     let im′ : Image = imageLeft s im (replyTo s im x) in (
       read-zero s im′ (o .sound) buffer a (t .long) (t .inside),
@@ -120,7 +112,7 @@ nowhere : {p : ℕ} → Nowhere ≡ At p → ⊥
 nowhere e = let z : _≡_ {A = ℕ} 0 1 = cc in omega arith
 
 pub lends-what-is-read : LendsWhatIsRead
-unfolding pageLeft lentPage
+unfolding pageLeft lentPage content
 lends-what-is-read s im a p buffer long = rw long (go (readRefusal s im (blocksOf s im) 512 a) (holder s im (blocksOf s im) a))
   where
     -- nothing is lent where n refuses, or where no page holds the content
@@ -183,17 +175,31 @@ stays-well-formed h =
 
 -- ---- demand 3
 
+pub counts-are-of-the-steps : CountsAreOfTheSteps
+unfolding formatReply readReply writeReply powerUpReply
+counts-are-of-the-steps s im = (
+  (λ cut. counts-told (formatRefusal s im c) cut (formatList s c)),
+  λ x. elim x [
+    | read a buffer ↦ counts-told (readRefusal s im c (length buffer) a) 0 []
+    | write a d cut ↦ counts-told (writeRefusal s im c (length d) a) cut (writeList s im c a d)
+    | powerUp table cut ↦ counts-told (powerUpRefusal s im c (length table)) cut (powerUpList s c)
+  ],
+)
+  where
+    c : Blocks
+    c = blocksOf s im
+
 pub at-most-twice-the-writes : AtMostTwiceTheWrites
 at-most-twice-the-writes h =
-    by-shape h (λ z im es. erasesIn es ≤ 2 * howMany counted es)
+    by-shape h (λ z im es. erasesIn es ≤ 2 * howMany doneOrCut es)
     (omega (arith, wear (s h) (formattedImage h) (h .commands) (start h .sound), none-in (s h) (formattedImage h) (start h .clean)))
 
 pub few-logical-blocks : FewLogicalBlocks
 few-logical-blocks h S few =
-    by-shape h (λ z im es. FallIn z S es → erasesIn es ≤ 2 * (howMany counted es / h .pages) + howMany wasCut es)
+    by-shape h (λ z im es. FallIn z S es → erasesIn es ≤ 2 * (howMany doneOrCut es / h .pages) + howMany wasCut es)
     (λ f.
     let r = wear-few (s h) S few (formattedImage h) (h .commands) (start h .sound) (λ l n j t e. start h .noLive j t) f in
-    let q : r .0 ≤ howMany counted (es h) / h .pages =
+    let q : r .0 ≤ howMany doneOrCut (es h) / h .pages =
     le-div-iff-mul-le {k = h .pages} (omega (arith, start h .fits .limits .pages-low)) .1
     (omega (arith, r .1, logPages-none (s h) (blocksOf (s h) (formattedImage h)) (start h .noLive))) in
     omega (arith, r .2, none-in (s h) (formattedImage h) (start h .clean)))
@@ -230,19 +236,11 @@ write-is-taken s im r a d cut t long =
 
 pub power-up-recovers : PowerUpRecovers
 unfolding powerUpReply
-power-up-recovers s im size cut = go (powerUpRefusal s im (blocksOf s im) size) refl
-  where
-    ts : List Step
-    ts = powerUpList s (blocksOf s im)
-
-    go : (n : ℕ) → powerUpRefusal s im (blocksOf s im) size ≡ n → number (unless n (refusedBy n) (carriedOut cut ts) .answer) ≡ 0
-        → RecoveredCard s (imageLeft s im (unless n (refusedBy n) (carriedOut cut ts)))
-    go zero e z =
-        let w = powerUp-taken s im size e in
-        let all : take cut ts ≡ ts = elim (done-number cut ts) [ inl q ↦ take-all cut ts (q .1) | inr q ↦ absurd (omega (arith, q .0)) ] in
-        subst (λ (us : List Step). RecoveredCard s (stepsDone s us im)) (sym all)
-        (card-of s (stepsDone s ts im) (powerUp-end s im w .0) (powerUp-end s im w .1))
-    go (suc n) e z = absurd (omega arith)
+power-up-recovers s im size cut z =
+    let ts : List Step = powerUpList s (blocksOf s im) in
+    let q = answered-0 (powerUpRefusal s im (blocksOf s im) size) cut ts z in
+    let r = powerUp-end s im (powerUp-taken s im size (q .0)) in
+    rw (q .0, q .1) (card-of s (stepsDone s ts im) (r .0) (r .1))
 
 table-same : (s : Shape) (c c′ : Blocks) → SamePlaces s c c′ → (n : ℕ) → tableOf s c n ≡ tableOf s c′ n
 unfolding tableOf
@@ -265,24 +263,17 @@ table-of-the-image-left s im old cut z =
 
 pub write-leaves-recovered : WriteLeavesRecovered
 unfolding writeReply
-write-leaves-recovered s im a d cut = go (writeRefusal s im (blocksOf s im) (length d) a) refl
-  where
-    ts : List Step
-    ts = writeList s im (blocksOf s im) a d
-
-    go : (n : ℕ) → writeRefusal s im (blocksOf s im) (length d) a ≡ n → number (unless n (refusedBy n) (carriedOut cut ts) .answer) ≡ 0
-        → RecoveredCard s (imageLeft s im (unless n (refusedBy n) (carriedOut cut ts)))
-    go zero e z =
-        let t = write-taken s im (length d) a e in
-        let all : take cut ts ≡ ts = elim (done-number cut ts) [ inl q ↦ take-all cut ts (q .1) | inr q ↦ absurd (omega (arith, q .0)) ] in
-        let r = taken-end s im a d t in
-        subst (λ (us : List Step). RecoveredCard s (stepsDone s us im)) (sym all) (card-of s (stepsDone s ts im) (r .0) (r .1))
-    go (suc n) e z = absurd (omega arith)
+write-leaves-recovered s im a d cut z =
+    let ts : List Step = writeList s im (blocksOf s im) a d in
+    let q = answered-0 (writeRefusal s im (blocksOf s im) (length d) a) cut ts z in
+    let r = taken-end s im a d (write-taken s im (length d) a (q .0)) in
+    rw (q .0, q .1) (card-of s (stepsDone s ts im) (r .0) (r .1))
 
 pub there-is-a-free-block : ThereIsAFreeBlock
-there-is-a-free-block s im a d e =
+there-is-a-free-block s im r = let w = of-card s im r in taken-free s (blocksOf s im) (w .0 .wf) (w .1) (w .0 .enough) .0
+
+pub a-free-block-after-the-merge : AFreeBlockAfterTheMerge
+a-free-block-after-the-merge s im a d e =
     let t = write-taken s im (length d) a e in
-    let r = pre-goal s im (t .sound) (blockOf s a) (t .clean) (theCase s im a d) (write-cases s im (t .sound) (blockOf s a)) (t .fit) .1 in (
-      taken-free s (blocksOf s im) (t .sound .wf) (t .clean) (t .sound .enough) .0,
-      taken-free s (blocksOf s (preImage s im a d)) (r .before .sound .wf) (r .clean) (r .before .sound .enough) .0,
-    )
+    let r = pre-goal s im (t .sound) (blockOf s a) (t .clean) (theCase s im a d) (write-cases s im (t .sound) (blockOf s a)) (t .fit) .1 in
+    taken-free s (blocksOf s (preImage s im a d)) (r .before .sound .wf) (r .clean) (r .before .sound .enough) .0

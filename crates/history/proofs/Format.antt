@@ -1,34 +1,33 @@
--- A format that is answered 0, of any image: afterwards every good block is free, and every page reads 255. Assumes nothing.
+-- A format that is answered 0, of any image: afterwards every good block is free, and every page reads 255.
 use mathlib.Core.Path.{_≡_, refl, sym, ap, _∙_, subst}
 use mathlib.Core.Logic.{_≢_, _⊎_, inl, inr}
 use mathlib.Core.Bool.{Bool, not, _&&_}
 use mathlib.Core.List.{List, [], _∷_, map}
-use Prim.Native.Nat.{ℕ, zero, suc, _≤_, _<_}
+use Prim.Native.Nat.{ℕ, _≤_, _<_}
 use native.Mathlib.Omega.{arith}
 use lib.ListN.{length, replicate}
-use lib.Seq.{take-all}
 use lib.Dec.{T, not-T, nltb→le}
 use Rattle.rules.specs.declared.shape.Shape.{Shape}
 use Rattle.rules.specs.declared.block.State.the-variants.{Free}
-use Rattle.rules.specs.declared.block.Block.{Block}
 use Rattle.rules.specs.Below.{pickBelow}
 use Rattle.rules.specs.Shape.{goodNeeded, blockOf, withinLimits}
 use Rattle.rules.specs.Page.{Image}
 use Rattle.rules.specs.WellFormed.{Blocks, notUsed, isGood, isFree, isIll, isUsed, isLive, liveLogs, blocksOf}
 use Rattle.rules.specs.Steps.{Step, erase, stepDone, stepsDone, formatList}
-use Rattle.rules.specs.Replies.{Reply, number, goodBlocks, outsideLimits, tooFewGood, formatRefusal, carriedOut, refusedBy, unless, imageLeft, formatReply}
+use Rattle.rules.specs.Replies.{Reply, number, goodBlocks, tooFewGood, formatTests, formatRefusal, carriedOut, imageLeft, formatReply}
 use Rattle.rules.specs.Facts.{Fits}
-use Rattle.laws.proofs.Tests.{and-l, and-i, dec-eq}
+use Rattle.laws.proofs.First.{first-none}
+use Rattle.laws.proofs.Tests.{tcase, and-l, and-i, dec-eq}
 use Rattle.laws.proofs.Below.{All, all-map, pickBelow-all, pickBelow-out, countBelow-none}
 use Rattle.laws.proofs.Shape.{withinLimits-within, offsetOf-below}
-use Rattle.laws.proofs.Roles.{used-good, ill-good, free-not-used, free-not-ill, good-below, none-filled, data-used, live-used, obsolete-e, dataBlock-none, liveLog-none, Recovered}
+use Rattle.laws.proofs.Roles.{free-if-good, good-below, none-filled, data-used, live-used, obsolete-e, dataBlock-none, liveLog-none, Recovered}
 use Rattle.laws.proofs.Records.{blocksOf-records}
 use Rattle.laws.proofs.Change.{changed, changed-same, changed-other, changed-elim, goodBlocks-kept}
 use Rattle.laws.proofs.Content.{content-blank}
 use Rattle.laws.proofs.Along.{AllAllowed}
 use Rattle.laws.proofs.Steps.{erase-done}
 use Rattle.laws.proofs.Erasing.{Sound, contentOf}
-use Rattle.history.proofs.Answers.{chain-zero, passes, done-number}
+use Rattle.history.proofs.Answers.{passes, answered-0}
 
 -- ---- erasing good blocks, whatever they hold
 
@@ -106,7 +105,7 @@ module _ (s : Shape) (im : Image) (w : Fits s im)
 
 -- ---- the format
 
-pub record Formatted (s : Shape) (im : Image) (r : Reply) : Type 0 where
+pub record JustFormatted (s : Shape) (im : Image) (r : Reply) : Type 0 where
   pub fits : Fits s im
   pub sound : Sound s (imageLeft s im r)
   pub blank : (a : ℕ) → contentOf s (imageLeft s im r) a ≡ replicate 512 255
@@ -125,19 +124,21 @@ module _ (s : Shape) (im : Image) (w : Fits s im) (enough : goodNeeded s ≤ goo
       (all-map (λ x. (x < s .blocks) × T (dirty x)) (λ x. T (isGood (blocksOf s im x .state))) (pickBelow (s .blocks) dirty)
       (λ x a. and-l (isGood (blocksOf s im x .state)) (not (isFree (blocksOf s im x .state))) (a .1)) (pickBelow-all (s .blocks) dirty))
 
-  -- a good block that is not free was erased
-  wiped-free : (j : ℕ) → T (isGood (blocksOf s im j .state)) → (T (isFree (blocksOf s im j .state)) → ⊥)
-      → All (λ x. j ≢ x) (pickBelow (s .blocks) dirty) → ⊥
+  -- a good block that was not erased is free
+  kept-free : (j : ℕ) → T (isGood (blocksOf s im j .state)) → All (λ x. j ≢ x) (pickBelow (s .blocks) dirty) → T (isFree (blocksOf s im j .state))
   unfolding dirty
-  wiped-free j g f a =
-      pickBelow-out (s .blocks) dirty j
-      (good-below s (blocksOf s im) (blocksOf-records s im (omega (arith, w .limits .pages-low)) (w .limits .blocks-high)) j g)
-      (and-i (isGood (blocksOf s im j .state)) (not (isFree (blocksOf s im j .state))) g (not-T (isFree (blocksOf s im j .state)) f)) a
+  kept-free j g a =
+      let below = good-below s (blocksOf s im) (blocksOf-records s im (omega (arith, w .limits .pages-low)) (w .limits .blocks-high)) j g in
+      elim (tcase (isFree (blocksOf s im j .state))) [
+        | inl f ↦ f
+        | inr f ↦ absurd (pickBelow-out (s .blocks) dirty j below
+            (and-i (isGood (blocksOf s im j .state)) (not (isFree (blocksOf s im j .state))) g f) a)
+      ]
 
-  list-formatted : (r : Reply) → r .steps ≡ formatList s (blocksOf s im) → Formatted s im r
+  list-leaves : (r : Reply) → r .steps ≡ formatList s (blocksOf s im) → JustFormatted s im r
   unfolding formatList dirty
-  list-formatted r e =
-      subst (λ (ts : List Step). Formatted s im (record { answer = r .answer; steps = ts })) (sym e)
+  list-leaves r e =
+      subst (λ (ts : List Step). JustFormatted s im (record { answer = r .answer; steps = ts })) (sym e)
       (record {
         fits = w;
         sound = empty-sound s im′ (all-wiped .fits) empty enough′;
@@ -155,30 +156,15 @@ module _ (s : Shape) (im : Image) (w : Fits s im) (enough : goodNeeded s ≤ goo
 
       empty : (j : ℕ) → (T (isUsed (blocksOf s im′ j .state)) → ⊥) × (T (isIll (blocksOf s im′ j .state)) → ⊥)
       empty j =
-          elim (all-wiped .blocks j) [
-            | inl q ↦ (
-              (λ t. let u = subst (λ (x : Block). T (isUsed (x .state))) (q .1) t in
-                  wiped-free j (used-good (blocksOf s im j .state) u) (λ f. free-not-used (blocksOf s im j .state) f u) (q .0)),
-              (λ t. let u = subst (λ (x : Block). T (isIll (x .state))) (q .1) t in
-                  wiped-free j (ill-good (blocksOf s im j .state) u) (λ f. free-not-ill (blocksOf s im j .state) f u) (q .0)),
-            )
-            | inr q ↦ ((λ t. subst (λ (x : Block). T (isUsed (x .state))) q t), (λ t. subst (λ (x : Block). T (isIll (x .state))) q t))
-          ]
+          free-if-good (blocksOf s im′ j .state)
+          (λ g. elim (all-wiped .blocks j) [ inl q ↦ rw (q .1) (kept-free j (rw (q .1) at g) (q .0)) | inr q ↦ rw q tt ])
 
-pub format-done : (s : Shape) (im : Image) (cut : ℕ) → number (formatReply s im cut .answer) ≡ 0 → Formatted s im (formatReply s im cut)
+pub format-done : (s : Shape) (im : Image) (cut : ℕ) → number (formatReply s im cut .answer) ≡ 0 → JustFormatted s im (formatReply s im cut)
 unfolding formatReply formatRefusal
-format-done s im cut = go (formatRefusal s im (blocksOf s im)) refl
-  where
-    ts : List Step
-    ts = formatList s (blocksOf s im)
-
-    go : (n : ℕ) → formatRefusal s im (blocksOf s im) ≡ n → number (unless n (refusedBy n) (carriedOut cut ts) .answer) ≡ 0
-        → Formatted s im (unless n (refusedBy n) (carriedOut cut ts))
-    go zero e z =
-        let r₁ = chain-zero (outsideLimits s im) 0 _ e in
-        let r₂ = chain-zero (tooFewGood s (blocksOf s im)) 3 0 (r₁ .1) in
-        let w = withinLimits-within s (length (im .bytes)) (length (im .spare))
-        (passes (withinLimits s (length (im .bytes)) (length (im .spare))) (r₁ .0)) in
-        list-formatted s im w (nltb→le (goodBlocks s (blocksOf s im)) (goodNeeded s) (not-T (tooFewGood s (blocksOf s im)) (r₂ .0))) (carriedOut cut ts)
-        (elim (done-number cut ts) [ inl q ↦ take-all cut ts (q .1) | inr q ↦ absurd (omega (arith, q .0)) ])
-    go (suc n) e z = absurd (omega arith)
+format-done s im cut z =
+    let ts : List Step = formatList s (blocksOf s im) in
+    let q = answered-0 (formatRefusal s im (blocksOf s im)) cut ts z in
+    let (f₁, (f₄, _)) = first-none (formatTests s im (blocksOf s im)) tt (q .0) in
+    let w = withinLimits-within s (length (im .bytes)) (length (im .spare)) (passes (withinLimits s (length (im .bytes)) (length (im .spare))) f₁) in
+    let enough = nltb→le (goodBlocks s (blocksOf s im)) (goodNeeded s) (not-T (tooFewGood s (blocksOf s im)) f₄) in
+    rw (q .0) (list-leaves s im w enough (carriedOut cut ts) (q .1))

@@ -1,4 +1,4 @@
--- A write has happened exactly if its cut number is above the length of what comes before its own program. Assumes nothing.
+-- A write has happened exactly if its cut number is above the length of what comes before its own program.
 use mathlib.Core.Path.{_≡_, refl, sym, ap, _∙_}
 use mathlib.Core.Logic.{inl, inr}
 use mathlib.Core.Bool.{Bool, true, false, _&&_, _||_, or-assoc}
@@ -7,19 +7,18 @@ use Prim.Native.Nat.{ℕ, zero, suc, _+_, _-_, _<_}
 use native.Mathlib.Omega.{arith}
 use lib.ListN.{length, take, length-append}
 use lib.Seq.{take-append-le, take-append-add}
-use lib.Dec.{ltb, eqb, lt→ltb}
+use lib.Dec.{ltb, eqb}
+use borrow.Author.Tests.{lt-ltb, le-ltb}
 use Rattle.rules.specs.declared.shape.Shape.{Shape}
 use Rattle.rules.specs.Spare.{logKind, copyKind, kindIn, addressIn, spareBytes}
 use Rattle.rules.specs.Below.{ifAny, listBelow}
 use Rattle.rules.specs.Shape.{blockOf, logicalPage}
 use Rattle.rules.specs.Page.{Image}
 use Rattle.rules.specs.WellFormed.{Blocks, blocksOf, dataBlock, liveLog}
-use Rattle.rules.specs.Content.{content}
-use Rattle.rules.specs.Steps.{Step, erase, taken, newNumber, mergeList, copies, Case, room, fresh, merging, mergeFirst, ownStep, logNumber, writeList}
+use Rattle.rules.specs.Steps.{Step, erase, taken, newNumber, copyStep, copies, renewal, contents, mergeList, Case, room, fresh, merging, mergeFirst, ownStep, logNumber, writeList}
 use Rattle.rules.specs.Replies.{carriedOut}
-use Rattle.laws.proofs.Tests.{is-true, is-false, true-is, false-is, and-i, or-l, or-r, or-e, dec-lt, eq→eqb, nlt→ltb}
+use Rattle.laws.proofs.Tests.{is-true, and-i, dec-lt, eq→eqb}
 use Rattle.laws.proofs.Spare.{spareBytes-kind, spareBytes-address}
-use Rattle.laws.proofs.Blocks.{copyStep}
 use Rattle.history.specs.History.{isOwn, ownDone, happened}
 use Rattle.history.proofs.Write.{theCase, preSteps, preImage, own, postErases, write-is}
 use Rattle.history.proofs.Answers.{done-number}
@@ -35,39 +34,35 @@ own-take : (a k : ℕ) (ts : List Step) → ownDone a ts ≡ false → ownDone a
 unfolding ownDone
 own-take a zero ts e = refl
 own-take a (suc k) [] e = refl
-own-take a (suc k) (t ∷ ts) e =
-    is-false (isOwn a t || ownDone a (take k ts))
-    (λ u. elim (or-e (isOwn a t) (ownDone a (take k ts)) u) [
-      | inl y ↦ false-is (isOwn a t || ownDone a ts) e (or-l (isOwn a t) (ownDone a ts) y)
-      | inr y ↦ false-is (ownDone a (take k ts))
-          (own-take a k ts (is-false (ownDone a ts) (λ z. false-is (isOwn a t || ownDone a ts) e (or-r (isOwn a t) (ownDone a ts) z)))) y
-    ])
+own-take a (suc k) (t ∷ ts) e = go (isOwn a t) (own-take a k ts) e
+  where
+    go : (b : Bool) → (ownDone a ts ≡ false → ownDone a (take k ts) ≡ false) → (b || ownDone a ts) ≡ false → (b || ownDone a (take k ts)) ≡ false
+    go true f e = e
+    go false f e = f e
 
 own-erases : (a : ℕ) (xs : List ℕ) → ownDone a (map erase xs) ≡ false
 unfolding ownDone
 own-erases a [] = refl
 own-erases a (x ∷ xs) = own-erases a xs
 
-own-copies : (s : Shape) (a fb n l : ℕ) (g : ℕ → List ℕ) (m : ℕ) → ownDone a (listBelow m (copyStep s fb n l g)) ≡ false
+own-copies : (s : Shape) (a fb n l : ℕ) (page : ℕ → List ℕ) (m : ℕ) → ownDone a (listBelow m (copyStep s fb n l page)) ≡ false
 unfolding ownDone listBelow
-own-copies s a fb n l g zero = refl
-own-copies s a fb n l g (suc m) =
-    own-append a (listBelow m (copyStep s fb n l g)) (copyStep s fb n l g m ∷ [])
-    ∙ ap (λ (b : Bool). b || (isOwn a (copyStep s fb n l g m) || false)) (own-copies s a fb n l g m)
+own-copies s a fb n l page zero = refl
+own-copies s a fb n l page (suc m) =
+    own-append a (listBelow m (copyStep s fb n l page)) (copyStep s fb n l page m ∷ [])
+    ∙ ap (λ (b : Bool). b || (isOwn a (copyStep s fb n l page m) || false)) (own-copies s a fb n l page m)
     ∙ ap (λ (k : ℕ). (eqb k logKind && eqb (addressIn (spareBytes n copyKind (logicalPage s l m))) a) || false)
     (spareBytes-kind n copyKind (logicalPage s l m))
 
 own-before : (s : Shape) (im : Image) (c : Blocks) (a : ℕ) (k : Case) → ownDone a (mergeFirst s im c k) ≡ false
-unfolding mergeList copies ownDone
+unfolding mergeList renewal copies ownDone
 own-before s im c a room = refl
 own-before s im c a fresh = refl
 own-before s im c a (merging m) =
-    let g : ℕ → List ℕ = λ o. content s im c (logicalPage s m o) in
-    let ts : List Step = listBelow (s .pages) (copyStep s (taken s c) (newNumber s c) m g) in
+    let page : ℕ → List ℕ = contents s im c m in
+    let ts : List Step = listBelow (s .pages) (copyStep s (taken s c) (newNumber s c) m page) in
     own-append a ts (map erase (ifAny (liveLog s c m) ++ ifAny (dataBlock s c m)))
-    ∙ ap (λ (b : Bool). b || ownDone a (map erase (ifAny (liveLog s c m) ++ ifAny (dataBlock s c m))))
-    (own-copies s a (taken s c) (newNumber s c) m g (s .pages))
-    ∙ own-erases a (ifAny (liveLog s c m) ++ ifAny (dataBlock s c m))
+    ∙ rw (own-copies s a (taken s c) (newNumber s c) m page (s .pages)) (own-erases a (ifAny (liveLog s c m) ++ ifAny (dataBlock s c m)))
 
 module _ (s : Shape) (im : Image) (a : ℕ) (d : List ℕ) (small : a < 65536) (cut : ℕ) where
   abbrev list : List Step
@@ -90,15 +85,8 @@ module _ (s : Shape) (im : Image) (a : ℕ) (d : List ℕ) (small : a < 65536) (
         | inl h ↦
             let e : length pre + suc (cut - suc (length pre)) ≡ cut = omega arith in
             ap (λ (k : ℕ). ownDone a (take k (pre ++ post))) (sym e) ∙ ap (ownDone a) (take-append-add pre post (suc (cut - suc (length pre))))
-            ∙ own-append a pre (take (suc (cut - suc (length pre))) post)
-            ∙ is-true (ownDone a pre || ownDone a (take (suc (cut - suc (length pre))) post))
-            (or-r (ownDone a pre) (ownDone a (take (suc (cut - suc (length pre))) post))
-            (or-l (isOwn a (own s im a d)) (ownDone a (take (cut - suc (length pre)) (map erase (postErases s im a d))))
-            (true-is (isOwn a (own s im a d)) own-is)))
-            ∙ sym (is-true (ltb (length pre) cut) (lt→ltb (length pre) cut h))
-        | inr h ↦
-            ap (ownDone a) (take-append-le cut pre post h) ∙ own-take a cut pre (own-before s im (blocksOf s im) a (theCase s im a d))
-            ∙ sym (is-false (ltb (length pre) cut) (nlt→ltb (length pre) cut h))
+            ∙ own-append a pre (take (suc (cut - suc (length pre))) post) ∙ rw (no-own, own-is, lt-ltb (length pre) cut h) refl
+        | inr h ↦ ap (ownDone a) (take-append-le cut pre post h) ∙ own-take a cut pre no-own ∙ sym (le-ltb (length pre) cut h)
       ]
     where
       pre : List Step
@@ -107,6 +95,9 @@ module _ (s : Shape) (im : Image) (a : ℕ) (d : List ℕ) (small : a < 65536) (
       post : List Step
       post = own s im a d ∷ map erase (postErases s im a d)
 
+      no-own : ownDone a pre ≡ false
+      no-own = own-before s im (blocksOf s im) a (theCase s im a d)
+
   -- exactly if the cut number is above the length of what comes before its own program
   pub happened-is : happened a (carriedOut cut (writeList s im (blocksOf s im) a d)) ≡ ltb (length (preSteps s im a d)) cut
   unfolding happened
@@ -114,7 +105,7 @@ module _ (s : Shape) (im : Image) (a : ℕ) (d : List ℕ) (small : a < 65536) (
       elim (done-number cut list) [
         | inl q ↦
             ap (λ (n : ℕ). eqb n 0 || (eqb n 8 && ownDone a (take cut list))) (q .0)
-            ∙ sym (is-true (ltb (length (preSteps s im a d)) cut) (lt→ltb (length (preSteps s im a d)) cut (omega (arith, q .1, longer))))
+            ∙ sym (lt-ltb (length (preSteps s im a d)) cut (omega (arith, q .1, longer)))
         | inr q ↦ ap (λ (n : ℕ). eqb n 0 || (eqb n 8 && ownDone a (take cut list))) (q .0) ∙ own-done
       ]
     where

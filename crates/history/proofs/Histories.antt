@@ -1,4 +1,4 @@
--- Histories, command by command: contents, steps and wear. Assumes nothing.
+-- Histories, command by command: contents, steps and wear.
 use mathlib.Core.Path.{_≡_, refl, sym, ap, _∙_, subst}
 use mathlib.Core.Logic.{inl, inr}
 use mathlib.Core.Bool.{Bool, _||_}
@@ -16,12 +16,12 @@ use Rattle.rules.specs.Facts.{Fits}
 use Rattle.laws.proofs.Tests.{tcase, and-l, and-r, and-i, or-r}
 use Rattle.laws.proofs.Below.{bit, bit-one, bit-zero, bit-mono, sumBelow, sumBelow-move, countBelow-sum, countBelow-places}
 use Rattle.laws.proofs.Roles.{live-used, liveLog-found, below-none, used-below}
-use Rattle.history.specs.History.{Command, replyTo, Event, eventsFrom, imageAfter, lastFrom, isWrite, answered, counted, wasCut, howMany, erasesIn, pageOfWrite, FallIn, stepsIn}
+use Rattle.history.specs.History.{Command, replyTo, Event, eventsFrom, imageAfter, lastFrom, isWrite, answered, doneOrCut, wasCut, howMany, erasesIn, pageOfWrite, FallIn, stepsIn}
 use Rattle.laws.proofs.Change.{NoLive}
 use Rattle.laws.proofs.Along.{AllAllowed, allowed-append}
 use Rattle.laws.proofs.Erasing.{Sound, contentOf, obsoletes}
+use Rattle.laws.proofs.Cases.{Victim}
 use Rattle.history.proofs.Cost.{logPages}
-use Rattle.history.proofs.Prepare.{Victim}
 use Rattle.history.proofs.Outcome.{outcome}
 
 -- ---- the same, for one shape
@@ -79,22 +79,22 @@ module _ (s : Shape) where
 
   -- ---- at most two erases for each write
 
-  cut-counted : (e : Event) → bit (wasCut e) ≤ bit (counted e)
-  cut-counted e =
-      bit-mono (wasCut e) (counted e)
+  cut-too : (e : Event) → bit (wasCut e) ≤ bit (doneOrCut e)
+  cut-too e =
+      bit-mono (wasCut e) (doneOrCut e)
       (λ t. and-i (isWrite (e .command)) (answered 0 (e .reply) || answered 8 (e .reply)) (and-l (isWrite (e .command)) (answered 8 (e .reply)) t)
       (or-r (answered 0 (e .reply)) (answered 8 (e .reply)) (and-r (isWrite (e .command)) (answered 8 (e .reply)) t)))
 
   pub wear : (im : Image) (xs : List Command) → Sound s im
-      → erasesIn (eventsOf s im xs) + obsoletes s (after s im xs) ≤ obsoletes s im + 2 * howMany counted (eventsOf s im xs)
+      → erasesIn (eventsOf s im xs) + obsoletes s (after s im xs) ≤ obsoletes s im + 2 * howMany doneOrCut (eventsOf s im xs)
   wear im [] w = omega arith
   wear im (x ∷ xs) w =
       let o = outcome s im w x in
       let e : Event = record { command = x; reply = replyTo s im x } in
       let r = wear (left s im x) xs (o .sound) in
       elim (o .paid) [
-        | inl q ↦ omega (arith, q .1, cut-counted e)
-        | inr q ↦ omega (arith, q .2, bit-one (counted e) (q .0))
+        | inl q ↦ omega (arith, q .1, cut-too e)
+        | inr q ↦ omega (arith, q .2, bit-one (doneOrCut e) (q .0))
       ]
 
 -- ---- writes in at most K logical blocks
@@ -139,7 +139,7 @@ module _ (s : Shape) (S : ℕ → Bool) (few : countBelow (s .logical) S ≤ s .
 
   -- full: the full log blocks that went
   pub wear-few : (im : Image) (xs : List Command) → Sound s im → Inside im → FallIn s S (eventsOf s im xs)
-      → (full : ℕ) × (s .pages * full + logPages s (blocksOf s (after s im xs)) ≤ logPages s (blocksOf s im) + howMany counted (eventsOf s im xs))
+      → (full : ℕ) × (s .pages * full + logPages s (blocksOf s (after s im xs)) ≤ logPages s (blocksOf s im) + howMany doneOrCut (eventsOf s im xs))
       × (erasesIn (eventsOf s im xs) + obsoletes s (after s im xs) ≤ obsoletes s im + 2 * full + howMany wasCut (eventsOf s im xs))
   wear-few im [] w v f = (0, omega arith, omega arith)
   wear-few im (x ∷ xs) w v f =
@@ -151,7 +151,7 @@ module _ (s : Shape) (S : ℕ → Bool) (few : countBelow (s .logical) S ≤ s .
         | inl q ↦ (r .0, omega (arith, r .1, q .0), omega (arith, r .2, q .1))
         | inr q ↦
             elim (q .3) [
-              | inl p ↦ (suc (r .0), omega (arith, r .1, p, bit-one (counted e) (q .0)), omega (arith, r .2, q .2))
+              | inl p ↦ (suc (r .0), omega (arith, r .1, p, bit-one (doneOrCut e) (q .0)), omega (arith, r .2, q .2))
               | inr y ↦ absurd (no-victim im w v (blockOf s (pageOfWrite x)) (f .0 (q .0)) (q .1) y)
             ]
       ]

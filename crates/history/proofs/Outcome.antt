@@ -1,12 +1,13 @@
--- What one command does to a sound image, whatever its arguments and its cut. Assumes nothing.
+-- What one command does to a sound image, whatever its arguments and its cut.
 use mathlib.Core.Path.{_≡_, refl, sym, ap, _∙_, subst}
 use mathlib.Core.Logic.{_≢_, _⊎_, inl, inr}
-use mathlib.Core.Bool.{Bool, true, false, _&&_, _||_, cond}
+use mathlib.Core.Bool.{Bool, true, false, _&&_, _||_, cond, and-true, and-false}
 use mathlib.Core.List.{List, [], _∷_, _++_, map}
 use Prim.Native.Nat.{ℕ, zero, suc, _+_, _≤_, _<_}
 use native.Mathlib.Omega.{arith}
 use lib.ListN.{length, take, length-append}
-use lib.Dec.{T, ltb, eqb, eqb·suc-zero, lt→ltb}
+use lib.Dec.{T, ltb, eqb, eqb·suc-zero}
+use borrow.Author.Tests.{lt-ltb, le-ltb}
 use Rattle.rules.specs.declared.shape.Shape.{Shape}
 use Rattle.rules.specs.declared.block.Block.{Block}
 use Rattle.rules.specs.Shape.{blockOf}
@@ -14,20 +15,21 @@ use Rattle.rules.specs.Below.{pickBelow}
 use Rattle.rules.specs.Page.{Image}
 use Rattle.rules.specs.WellFormed.{Blocks, isObsolete, blocksOf}
 use Rattle.rules.specs.Steps.{Step, erase, erases, stepsDone, powerUpList, writeList}
-use Rattle.rules.specs.Replies.{Reply, number, erasesOf, powerUpRefusal, readRefusal, writeRefusal, carriedOut, refusedBy, unless, imageLeft, powerUpReply, readReply, writeReply}
-use Rattle.laws.proofs.Tests.{is-true, is-false, and-l, and-r, and-i, or-l, or-r, cond-yes, cond-no, dec-eq, dec-lt, eq→eqb, ne→eqb, nlt→ltb}
+use Rattle.rules.specs.Replies.{Reply, number, powerUpRefusal, readRefusal, writeRefusal, carriedOut, refusedBy, unless, imageLeft, powerUpReply, readReply, writeReply}
+use Rattle.laws.proofs.Tests.{or-l, or-r, dec-lt, eq→eqb}
 use Rattle.laws.proofs.Below.{bit, bit-one, All, all-map, pickBelow-all, pickBelow-distinct, pickBelow-out}
 use Rattle.laws.proofs.Shape.{inRange-block, inRange-small}
 use Rattle.laws.proofs.Roles.{used-below, obsolete-e, Recovered}
-use Rattle.history.specs.History.{Command, read, write, powerUp, replyTo, Event, answered, ownDone, happened, pageAfter, counted, wasCut, pageOfWrite}
+use Rattle.history.specs.History.{Command, read, write, powerUp, replyTo, Event, answered, ownDone, happened, pageAfter, doneOrCut, wasCut, pageOfWrite}
 use Rattle.laws.proofs.Change.{NoLive}
 use Rattle.laws.proofs.Along.{AllAllowed, Along, along-cut, along-end, along-allowed, allowed-take}
 use Rattle.laws.proofs.Erasing.{Sound, logical-few, contentOf, obsoletes, Erasing, erasing-start, erasing}
+use Rattle.laws.proofs.Cases.{Victim}
 use Rattle.history.proofs.Cost.{logPages, logPages-is}
-use Rattle.history.proofs.Plan.{Mid, PlanOk, written, written-own, written-other, plan-before, plan-after, plan-allowed}
-use Rattle.history.proofs.Prepare.{Victim, none-in}
+use Rattle.history.proofs.Plan.{Mid, PlanOk, written, written-is, plan-before, plan-after, plan-allowed}
+use Rattle.history.proofs.Prepare.{none-in}
 use Rattle.history.proofs.Write.{preSteps, own, postErases, write-is, write-ok}
-use Rattle.history.proofs.Answers.{WriteTaken, write-taken, done-number, done-erases}
+use Rattle.history.proofs.Answers.{WriteTaken, write-taken, done-number}
 use Rattle.history.proofs.Happened.{happened-is}
 
 -- ---- power-up: every cut, and its end
@@ -83,22 +85,22 @@ module _ (s : Shape) (im : Image) (x : Command) (r : Reply) where
   -- another logical block was merged
   abbrev pub Paid : Type 0
   Paid =
-      ((logPages s (blocksOf s left) ≤ logPages s (blocksOf s im) + bit (counted event))
-      × (erasesOf (r .answer) + obsoletes s left ≤ obsoletes s im + bit (wasCut event)))
-      ⊎ (T (counted event) × (blockOf s (pageOfWrite x) < s .logical) × (erasesOf (r .answer) + obsoletes s left ≤ obsoletes s im + 2)
+      ((logPages s (blocksOf s left) ≤ logPages s (blocksOf s im) + bit (doneOrCut event))
+      × (erases (r .steps) + obsoletes s left ≤ obsoletes s im + bit (wasCut event)))
+      ⊎ (T (doneOrCut event) × (blockOf s (pageOfWrite x) < s .logical) × (erases (r .steps) + obsoletes s left ≤ obsoletes s im + 2)
       × ((logPages s (blocksOf s left) + s .pages ≤ logPages s (blocksOf s im) + 1) ⊎ Victim s im (blockOf s (pageOfWrite x))))
 
   pub record Outcome : Type 0 where
     pub sound : Sound s left
     pub holds : (a : ℕ) → contentOf s left a ≡ pageAfter x r a (contentOf s im a)
     pub allowed : AllAllowed s (r .steps) im
-    pub noLive : (l : ℕ) → (T (counted event) → l ≢ blockOf s (pageOfWrite x)) → NoLive s (blocksOf s im) l → NoLive s (blocksOf s left) l
+    pub noLive : (l : ℕ) → (T (doneOrCut event) → l ≢ blockOf s (pageOfWrite x)) → NoLive s (blocksOf s im) l → NoLive s (blocksOf s left) l
     pub paid : Paid
 
 -- ---- a command that does nothing
 
 module _ (s : Shape) (im : Image) (w : Sound s im) (x : Command) where
-  nothing : (r : Reply) → r .steps ≡ [] → erasesOf (r .answer) ≡ 0 → ((a : ℕ) (v : List ℕ) → pageAfter x r a v ≡ v) → Outcome s im x r
+  nothing : (r : Reply) → r .steps ≡ [] → erases (r .steps) ≡ 0 → ((a : ℕ) (v : List ℕ) → pageAfter x r a v ≡ v) → Outcome s im x r
   unfolding stepsDone
   nothing r e z same =
       record {
@@ -107,7 +109,7 @@ module _ (s : Shape) (im : Image) (w : Sound s im) (x : Command) where
         allowed = subst (λ (ts : List Step). AllAllowed s ts im) (sym e) tt;
         noLive = λ l n f. subst (λ (i : Image). NoLive s (blocksOf s i) l) here f;
         paid = inl (
-          subst (λ (i : Image). logPages s (blocksOf s i) ≤ logPages s (blocksOf s im) + bit (counted (record { command = x; reply = r }))) here
+          subst (λ (i : Image). logPages s (blocksOf s i) ≤ logPages s (blocksOf s im) + bit (doneOrCut (record { command = x; reply = r }))) here
               (omega arith),
           omega (arith, z, ap (obsoletes s) here),
         );
@@ -119,11 +121,7 @@ module _ (s : Shape) (im : Image) (w : Sound s im) (x : Command) where
 -- a refused write has not happened
 refused-not : (a n : ℕ) → happened a (refusedBy (suc n)) ≡ false
 unfolding happened ownDone
-refused-not a n = ap (λ (b : Bool). b || (eqb (suc n) 8 && false)) (eqb·suc-zero n) ∙ go (eqb (suc n) 8)
-  where
-    go : (b : Bool) → (b && false) ≡ false
-    go true = refl
-    go false = refl
+refused-not a n = ap (λ (b : Bool). b || (eqb (suc n) 8 && false)) (eqb·suc-zero n) ∙ and-false (eqb (suc n) 8)
 
 -- ---- a write that is not refused
 
@@ -153,15 +151,15 @@ module _ (s : Shape) (im : Image) (a : ℕ) (d : List ℕ) (cut : ℕ) (t : Writ
   none′ : obsoletes s im ≡ 0
   none′ = none-in s im (t .clean)
 
-  taken-counted : T (counted (record { command = cmd; reply = r }))
-  taken-counted =
+  taken-on : T (doneOrCut (record { command = cmd; reply = r }))
+  taken-on =
       elim (done-number cut ts) [
         | inl q ↦ or-l (answered 0 r) (answered 8 r) (eq→eqb (number (r .answer)) 0 (q .0))
         | inr q ↦ or-r (answered 0 r) (answered 8 r) (eq→eqb (number (r .answer)) 8 (q .0))
       ]
 
-  one : bit (counted (record { command = cmd; reply = r })) ≡ 1
-  one = bit-one (counted (record { command = cmd; reply = r })) taken-counted
+  one : bit (doneOrCut (record { command = cmd; reply = r })) ≡ 1
+  one = bit-one (doneOrCut (record { command = cmd; reply = r })) taken-on
 
   page-after : (b : Bool) → ltb (length pre) cut ≡ b → (y : ℕ) (v : List ℕ) → pageAfter cmd r y v ≡ cond (eqb y a && b) d v
   page-after b e y v = ap (λ (h : Bool). cond (eqb y a && h) d v) (happened-is s im a d small cut ∙ e)
@@ -175,9 +173,6 @@ module _ (s : Shape) (im : Image) (a : ℕ) (d : List ℕ) (cut : ℕ) (t : Writ
   -- from the state of a plan
   module _ (M : ℕ → List ℕ) (Open : ℕ → Type 0) (h k : ℕ)
       (m : Mid s im M Open (Victim s im (blockOf s a)) h k (erases (take cut ts)) (stepsDone s (take cut ts) im)) where
-    erased : erasesOf (r .answer) ≡ erases (take cut ts)
-    erased = done-erases cut ts
-
     from-mid : h ≤ 1 → k ≤ bit (wasCut (record { command = cmd; reply = r })) → ((l : ℕ) → l ≢ blockOf s a → Open l → ⊥)
         → ((y : ℕ) → M y ≡ pageAfter cmd r y (contentOf s im y)) → Outcome s im cmd r
     from-mid hh hk no-open same =
@@ -185,13 +180,13 @@ module _ (s : Shape) (im : Image) (a : ℕ) (d : List ℕ) (cut : ℕ) (t : Writ
           sound = m .sound;
           holds = λ y. m .holds y ∙ same y;
           allowed = allowed′;
-          noLive = λ l n f. m .noLive l (no-open l (n taken-counted)) f;
+          noLive = λ l n f. m .noLive l (no-open l (n taken-on)) f;
           paid = elim (m .cost) [
-            | inl q ↦ inl (omega (arith, q .0, one), omega (arith, q .1, erased, none′))
+            | inl q ↦ inl (omega (arith, q .0, one), omega (arith, q .1, none′))
             | inr q ↦ inr (
-              taken-counted,
+              taken-on,
               inRange-block s (t .sound .fits .limits) a (t .inside),
-              omega (arith, m .total, erased, none′),
+              omega (arith, m .total, none′),
               elim q [ inl y ↦ inl (omega (arith, y .0)) | inr v ↦ inr v ],
             )
           ];
@@ -206,31 +201,17 @@ module _ (s : Shape) (im : Image) (a : ℕ) (d : List ℕ) (cut : ℕ) (t : Writ
             (stepsDone s (take cut us) im))
             (plan-after s im (taken-plan s im a d t) cut h))
             (omega arith) (omega arith) (λ l n e. n e)
-            (λ y. after-is y (page-after true (is-true (ltb (length pre) cut) (lt→ltb (length pre) cut h)) y (contentOf s im y)))
+            (λ y. written-is a d (contentOf s im) y ∙ sym (page-after true (lt-ltb (length pre) cut h) y (contentOf s im y) ∙ rw and-true refl))
         | inr h ↦
             from-mid (contentOf s im) (λ l. ⊥) 0 1
             (as-list (λ us. Mid s im (contentOf s im) (λ l. ⊥) (Victim s im (blockOf s a)) 0 1 (erases (take cut us)) (stepsDone s (take cut us) im))
             (plan-before s im (taken-plan s im a d t) cut h))
             (omega arith) (omega (arith, cut-short h)) (λ l n e. e)
-            (λ y. before-is y (page-after false (is-false (ltb (length pre) cut) (nlt→ltb (length pre) cut h)) y (contentOf s im y)))
+            (λ y. sym (page-after false (le-ltb (length pre) cut h) y (contentOf s im y) ∙ rw and-false refl))
       ]
     where
       as-list : (Q : List Step → Type 0) → Q (pre ++ (own s im a d ∷ map erase (postErases s im a d))) → Q ts
       as-list Q = subst Q (sym (write-is s im a d))
-
-      after-is : (y : ℕ) → pageAfter cmd r y (contentOf s im y) ≡ cond (eqb y a && true) d (contentOf s im y)
-          → written a d (contentOf s im) y ≡ pageAfter cmd r y (contentOf s im y)
-      after-is y e =
-          elim (dec-eq y a) [
-            | inl q ↦ ap (written a d (contentOf s im)) q ∙ written-own a d (contentOf s im)
-                ∙ sym (e ∙ cond-yes (eqb y a && true) d (contentOf s im y) (and-i (eqb y a) true (eq→eqb y a q) tt))
-            | inr q ↦ written-other a d (contentOf s im) y q
-                ∙ sym (e ∙ cond-no (eqb y a && true) d (contentOf s im y) (λ u. ne→eqb y a q (and-l (eqb y a) true u)))
-          ]
-
-      before-is : (y : ℕ) → pageAfter cmd r y (contentOf s im y) ≡ cond (eqb y a && false) d (contentOf s im y)
-          → contentOf s im y ≡ pageAfter cmd r y (contentOf s im y)
-      before-is y e = sym (e ∙ cond-no (eqb y a && false) d (contentOf s im y) (λ u. and-r (eqb y a) false u))
 
       cut-short : cut ≤ length pre → bit (wasCut (record { command = cmd; reply = r })) ≡ 1
       cut-short h =
@@ -251,7 +232,7 @@ module _ (s : Shape) (im : Image) (w : Sound s im) where
       go zero e = write-outcome s im a d cut (write-taken s im (length d) a e)
       go (suc n) e =
           nothing s im w (write a d cut) (refusedBy (suc n)) refl refl
-          (λ y v. ap (λ (b : Bool). cond (eqb y a && b) d v) (refused-not a n) ∙ cond-no (eqb y a && false) d v (λ u. and-r (eqb y a) false u))
+          (λ y v. rw (refused-not a n, and-false) refl)
 
   read-any : (a : ℕ) (buffer : List ℕ) → Outcome s im (read a buffer) (readReply s im (length buffer) a)
   unfolding readReply
@@ -282,7 +263,7 @@ module _ (s : Shape) (im : Image) (w : Sound s im) where
             noLive = λ l n f j u z. f j (q .live j u .0) (ap (λ (y : Block). y .logical) (sym (q .live j u .1)) ∙ z);
             paid = inl (
               omega (arith, logPages-is s (blocksOf s im) (blocksOf s (stepsDone s (take cut ts′) im)) (q .live)),
-              omega (arith, q .total, done-erases cut ts′),
+              omega (arith, q .total),
             );
           }
 

@@ -1,4 +1,4 @@
--- The own program of a write: the next page of the live log block, or the first of a block just taken, and the erase after it. Assumes nothing.
+-- The own program of a write: the next page of the live log block, or the first of a block just taken, and the erase after it.
 use mathlib.Core.Path.{_≡_, refl, sym, ap, _∙_, subst}
 use mathlib.Core.Logic.{_≢_, _⊎_, inl, inr}
 use mathlib.Core.Bool.{Bool, cond}
@@ -21,8 +21,8 @@ use Rattle.laws.proofs.Tests.{bool-ext, dec-eq, eq→eqb}
 use Rattle.laws.proofs.Below.{All, found-all, found-distinct, found-out, countBelow-one}
 use Rattle.laws.proofs.Shape.{logicalPage-of, offsetOf-below, inRange-block, inRange-small}
 use Rattle.laws.proofs.Blocks.{oneMore, Writable, Joins}
-use Rattle.laws.proofs.Roles.{free-good, free-not-used, good-below, used-below, below-none, none-filled, complete-e, data-e, data-used, live-e, live-used, data-not-live, obsolete-e, dataNumber-below, WellFormed, dataBlock-found, dataBlock-is, liveLog-is, liveLog-none, Recovered, highest-ge}
-use Rattle.laws.proofs.Change.{changed, changed-same, changed-other, Fitting, NoLive, LiveIs, goodBlocks-kept, dataBlock-kept, below-obsolete, Completed, complete, complete-obsolete, Written, append, begin}
+use Rattle.laws.proofs.Roles.{free-good, free-not-used, good-below, used-below, below-none, none-filled, complete-e, data-e, data-used, live-e, live-used, data-not-live, obsolete-e, dataNumber-below, WellFormed, has-some, dataBlock-found, dataBlock-is, liveLog-is, liveLog-none, Recovered, highest-ge}
+use Rattle.laws.proofs.Change.{changed, changed-same, changed-other, Fitting, NoLive, LiveIs, goodBlocks-kept, dataBlock-kept, below-obsolete, Completed, complete, complete-obsolete, LogGrown, append, begin}
 use Rattle.laws.proofs.Content.{offsetAt, content-append, content-fill}
 use Rattle.laws.proofs.Along.{Along}
 use Rattle.laws.proofs.Steps.{nextStep, Programmed, program-done, used-numbers, ordered-offsets}
@@ -101,16 +101,11 @@ module _ (s : Shape) (im : Image) {a : ℕ} {d : List ℕ} {b n : ℕ} (r : Read
 
   table : Writable n logKind a
   table =
-      record {
-        number-low = elim (r .place) [
-          | inl p ↦ omega (arith, used-numbers s im (w .fits) b (live-used s c b (p .0)) .0, p .2)
-          | inr p ↦ omega
-              (arith, p .3)
-        ];
-        number-high = r .high;
-        kind = inl refl;
-        address = inRange-small s (w .fits .limits) (logical-few s im w) a (r .inside);
-      }
+      let low : 1 ≤ n = elim (r .place) [
+        | inl p ↦ omega (arith, used-numbers s im (w .fits) b (live-used s c b (p .0)) .0, p .2)
+        | inr p ↦ omega (arith, p .3)
+      ] in
+      record { number-low = low; number-high = r .high; kind = inl refl; address = inRange-small s (w .fits .limits) (logical-few s im w) a (r .inside) }
 
   joins : Joins s (blocksOf s im b) n logKind a
   joins =
@@ -172,11 +167,7 @@ module _ (s : Shape) (im : Image) {a : ℕ} {d : List ℕ} {b n : ℕ} (r : Read
 
   -- a logical block's data block is another than b
   data-other : (m : ℕ) → dataBlock s c m ≢ none → dataBlock s c m ≢ b
-  data-other m h e =
-      elim (dataBlock-found s c (w .wf .records) m) [
-        | inl y ↦ not-data (subst (λ (j : ℕ). T (isData s c j)) e (y .passes))
-        | inr y ↦ h (y .is)
-      ]
+  data-other m h e = not-data (subst (λ (j : ℕ). T (isData s c j)) e (has-some (dataBlock-found s c (w .wf .records) m) h .passes))
 
   -- ---- the contents
 
@@ -217,7 +208,7 @@ module _ (s : Shape) (im : Image) {a : ℕ} {d : List ℕ} {b n : ℕ} (r : Read
   -- ---- b stays a log block
 
   module _ (open′ : T (isComplete s x) → ⊥) where
-    made : Written s c b x
+    made : LogGrown s c b x
     made =
         elim (r .place) [
           | inl p ↦ append s c b x (w .wf) x-allowed tt refl open′ not-data above (p .0) (p .1)
@@ -231,16 +222,13 @@ module _ (s : Shape) (im : Image) {a : ℕ} {d : List ℕ} {b n : ℕ} (r : Read
     data-is = dataBlock-kept s c b x l (made .numbers l) (λ t. absurd (not-data t)) (λ t. absurd (open′ (t .complete)))
 
     append-holds : (y : ℕ) → contentOf s im′ y ≡ written a d (contentOf s im) y
-    append-holds = holds-with (λ m ne. made .numbers m) own
-      where
-        own : (y : ℕ) → blockOf s y ≡ l
-            → content s im′ c′ y ≡ cond (eqb (offsetAt s im′ b f) (offsetOf s y)) (pageBytes im′ (pageNo s b f)) (content s im c y)
-        own y e =
-            content-append s y (offsetOf-below s (w .fits .limits) y) im im′ c c′ b f
-            (subst (λ (m : ℕ). (c (liveLog s c m) .filled ≡ f) × ((liveLog s c m ≡ b) ⊎ (f ≡ 0))) (sym e) before) (done .earlier)
-            (ap (liveLog s c′) e ∙ log-is) (ap (λ (z : Block). z .filled) (changed-same c b x) ∙ add-one f)
-            (ap (dataBlock s c′) e ∙ data-is ∙ ap (dataBlock s c) (sym e))
-            (λ h. done .others (dataBlock s c (blockOf s y)) (data-other (blockOf s y) h))
+    append-holds =
+        holds-with (λ m ne. made .numbers m)
+        (λ y e. content-append s y (offsetOf-below s (w .fits .limits) y) im im′ c c′ b f
+        (subst (λ (m : ℕ). (c (liveLog s c m) .filled ≡ f) × ((liveLog s c m ≡ b) ⊎ (f ≡ 0))) (sym e) before) (done .earlier)
+        (ap (liveLog s c′) e ∙ log-is) (ap (λ (z : Block). z .filled) (changed-same c b x) ∙ add-one f)
+        (ap (dataBlock s c′) e ∙ data-is ∙ ap (dataBlock s c) (sym e))
+        (λ h. done .others (dataBlock s c (blockOf s y)) (data-other (blockOf s y) h)))
 
     append-pages : logPages s (blocksOf s im′) ≤ logPages s c + 1
     append-pages =
@@ -308,15 +296,12 @@ module _ (s : Shape) (im : Image) {a : ℕ} {d : List ℕ} {b n : ℕ} (r : Read
         at-b = ap (λ (k : Blocks). k b) (done .blocks) ∙ changed-same c b x
 
     fill-holds : (y : ℕ) → contentOf s im′ y ≡ written a d (contentOf s im) y
-    fill-holds = holds-with (made′ .numbers) own
-      where
-        own : (y : ℕ) → blockOf s y ≡ l
-            → content s im′ c′ y ≡ cond (eqb (offsetAt s im′ b f) (offsetOf s y)) (pageBytes im′ (pageNo s b f)) (content s im c y)
-        own y e =
-            content-fill s y (offsetOf-below s (w .fits .limits) y) im im′ c c′ b f
-            (subst (λ (m : ℕ). (c (liveLog s c m) .filled ≡ f) × ((liveLog s c m ≡ b) ⊎ (f ≡ 0))) (sym e) before) (done .earlier)
-            (subst (λ (m : ℕ). c′ (liveLog s c′ m) .filled ≡ 0) (sym e) log-none) (ap (dataBlock s c′) e ∙ data-is′)
-            (below-none s c (w .wf .records) b-below) filled-is in-order
+    fill-holds =
+        holds-with (made′ .numbers)
+        (λ y e. content-fill s y (offsetOf-below s (w .fits .limits) y) im im′ c c′ b f
+        (subst (λ (m : ℕ). (c (liveLog s c m) .filled ≡ f) × ((liveLog s c m ≡ b) ⊎ (f ≡ 0))) (sym e) before) (done .earlier)
+        (subst (λ (m : ℕ). c′ (liveLog s c′ m) .filled ≡ 0) (sym e) log-none) (ap (dataBlock s c′) e ∙ data-is′)
+        (below-none s c (w .wf .records) b-below) filled-is in-order)
 
     abbrev o : ℕ
     o = dataBlock s c l
@@ -336,14 +321,11 @@ module _ (s : Shape) (im : Image) {a : ℕ} {d : List ℕ} {b n : ℕ} (r : Read
 
     former : o ≢ none → T (isObsolete s (blocksOf s im′) o)
     former h =
-        elim (dataBlock-found s c (w .wf .records) l) [
-          | inl y ↦
-              let z : c′ o ≡ c o = changed-other c b x o (data-other l h) in
-              let q : c o .number ≡ dataNumber s c l = data-e s c o (y .passes) .number ∙ ap (dataNumber s c) (y .logical) in
-              subst (λ (k : Blocks). T (isObsolete s k o)) (sym (done .blocks))
-              (below-obsolete s c′ o (rw z (data-used s c o (y .passes))) (rw (z, y .logical, made′ .top) (omega (arith, above))))
-          | inr y ↦ absurd (h (y .is))
-        ]
+        let y = has-some (dataBlock-found s c (w .wf .records) l) h in
+        let z : c′ o ≡ c o = changed-other c b x o (data-other l h) in
+        let q : c o .number ≡ dataNumber s c l = data-e s c o (y .passes) .number ∙ ap (dataNumber s c) (y .logical) in
+        subst (λ (k : Blocks). T (isObsolete s k o)) (sym (done .blocks))
+        (below-obsolete s c′ o (rw z (data-used s c o (y .passes))) (rw (z, y .logical, made′ .top) (omega (arith, above))))
 
     fill-sound : Sound s im′
     fill-sound = sound-with (made′ .wf)

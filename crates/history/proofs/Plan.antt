@@ -1,4 +1,4 @@
--- A command as a plan: steps, its own program, from which on it has happened, and blocks erased then. What holds at every cut. Assumes nothing.
+-- A command as a plan: steps, its own program, from which on it has happened, and blocks erased then. What holds at every cut.
 use mathlib.Core.Path.{_≡_, refl, ap, subst}
 use mathlib.Core.Logic.{_≢_, _⊎_}
 use mathlib.Core.Bool.{cond}

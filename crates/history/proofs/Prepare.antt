@@ -1,32 +1,27 @@
--- The steps of a write before its own: its three cases, and the merge. Every cut, and what its own program finds. Assumes nothing.
+-- The steps of a write before its own, in each of its cases: every cut, and what its own program finds.
 use mathlib.Core.Path.{_≡_, refl, sym, ap, _∙_, subst}
-use mathlib.Core.Logic.{_≢_, _⊎_, inl, inr}
+use mathlib.Core.Logic.{_⊎_, inl, inr}
 use Prim.Native.Nat.{ℕ, _+_, _≤_, _<_}
 use native.Mathlib.Omega.{arith}
-use lib.Dec.{T, ltb, T-not, ltb→lt, nltb→le}
+use lib.Dec.{T}
 use Rattle.rules.specs.declared.shape.Shape.{Shape}
 use Rattle.rules.specs.declared.block.Block.{Block}
-use Rattle.rules.specs.Below.{none, isNone, lowestBelow}
 use Rattle.rules.specs.Spare.{numberLimit}
 use Rattle.rules.specs.Page.{Image}
-use Rattle.rules.specs.WellFormed.{Blocks, isFree, isLive, isObsolete, liveLog, liveLogs, blocksOf}
-use Rattle.rules.specs.Steps.{stepsDone, erases, taken, highest, newNumber, mergeList, victim, Case, room, fresh, merging, writeCase, numbersNeeded, mergeFirst, logBlock, logNumber}
-use Rattle.laws.proofs.Tests.{tcase, is-true, is-false, eq→eqb, ne→eqb}
-use Rattle.laws.proofs.Below.{lowestBelow-found, countBelow-some, countBelow-none}
-use Rattle.laws.proofs.Roles.{used-below, below-none, free-not-used, live-used, liveLog-found, liveLog-is, Recovered, taken-free}
+use Rattle.rules.specs.WellFormed.{Blocks, isFree, isLive, isObsolete, liveLog, blocksOf}
+use Rattle.rules.specs.Steps.{stepsDone, erases, taken, highest, newNumber, mergeList, Case, room, fresh, merging, numbersNeeded, mergeFirst, logBlock, logNumber}
+use Rattle.laws.proofs.Below.{countBelow-none}
+use Rattle.laws.proofs.Roles.{free-not-used, live-used, Recovered, taken-free}
 use Rattle.laws.proofs.Change.{NoLive, LiveIs}
 use Rattle.laws.proofs.Along.{Along}
 use Rattle.laws.proofs.Steps.{used-numbers}
-use Rattle.laws.proofs.Erasing.{Sound, obsoletes}
-use Rattle.laws.proofs.Merge.{Before, After, merge-along, merge-end}
+use Rattle.laws.proofs.Erasing.{Sound, contentOf, obsoletes}
+use Rattle.laws.proofs.Renewal.{Before, After}
+use Rattle.laws.proofs.Merge.{merge-along, merge-end}
+use Rattle.laws.proofs.Cases.{Victim, MergeFirst, Cases, has-room, has-none, must-merge, merge-log, merge-logical}
 use Rattle.history.proofs.Cost.{logPages, logPages-is, logPages-drop, liveLogs-drop}
 use Rattle.history.proofs.Plan.{Cost, NotYet}
 use Rattle.history.proofs.Own.{Place}
-
-module _ (s : Shape) (im : Image) (l : ℕ) where
-  -- l has no live log block while K are live: that of another logical block is merged
-  abbrev pub Victim : Type 0
-  Victim = (liveLog s (blocksOf s im) l ≡ none) × (s .logs ≤ liveLogs s (blocksOf s im))
 
 -- a recovered card has no obsolete block
 pub none-in : (s : Shape) (im : Image) → Recovered s (blocksOf s im) → obsoletes s im ≡ 0
@@ -36,75 +31,6 @@ none-in s im f = countBelow-none (s .blocks) (isObsolete s (blocksOf s im)) (λ 
 module _ (s : Shape) (im : Image) (w : Sound s im) (l : ℕ) where
   abbrev c : Blocks
   c = blocksOf s im
-
-  -- ---- the three cases of a write in l
-
-  -- m has a live log block, which is full, or K are live; and l has no other
-  pub record MergeFirst (m : ℕ) : Type 0 where
-    pub live : T (isLive s c (liveLog s c m))
-    pub logical : c (liveLog s c m) .logical ≡ m
-    pub why : (s .pages ≤ c (liveLog s c m) .filled) ⊎ Victim s im l
-    pub only : (j : ℕ) → T (isLive s c j) → c j .logical ≡ l → j ≡ liveLog s c m
-
-  pub data Cases : Case → Type 0 where
-    has-room : T (isLive s c (liveLog s c l)) → c (liveLog s c l) .logical ≡ l → c (liveLog s c l) .filled < s .pages → Cases room
-    has-none : NoLive s c l → liveLogs s c < s .logs → Cases fresh
-    must-merge : (m : ℕ) → MergeFirst m → Cases (merging m)
-
-  with-log : T (isLive s c (liveLog s c l)) → c (liveLog s c l) .logical ≡ l → Cases (writeCase s c l)
-  unfolding writeCase
-  with-log t e =
-      let n : liveLog s c l ≢ none = below-none s c (w .wf .records)
-      (used-below s c (w .wf .records) (liveLog s c l) (live-used s c (liveLog s c l) t)) in
-      rw (is-false (isNone (liveLog s c l)) (ne→eqb (liveLog s c l) none n))
-      (elim (tcase (ltb (c (liveLog s c l) .filled) (s .pages))) [
-        | inl u ↦ rw (is-true (ltb (c (liveLog s c l) .filled) (s .pages)) u) (has-room t e (ltb→lt (c (liveLog s c l) .filled) (s .pages) u))
-        | inr u ↦
-            rw (is-false (ltb (c (liveLog s c l) .filled) (s .pages)) (T-not (ltb (c (liveLog s c l) .filled) (s .pages)) u))
-            (must-merge l (record {
-              live = t;
-              logical = e;
-              why = inl (nltb→le (c (liveLog s c l) .filled) (s .pages) u);
-              only = λ j v q. sym (liveLog-is s c (w .wf) j l v q);
-            }))
-      ])
-
-  -- where K log blocks are live, the one with the lowest number is there
-  victim-live : 0 < liveLogs s c → T (isLive s c (lowestBelow (s .blocks) (isLive s c) (λ j. c j .number)))
-  unfolding liveLogs
-  victim-live h =
-      let q = countBelow-some (s .blocks) (isLive s c) h in
-      elim (lowestBelow-found (s .blocks) (isLive s c) (λ j. c j .number) (omega (arith, w .wf .records .few))) [
-        | inl r ↦ r .passes
-        | inr r ↦ absurd (r .fails (q .0) (q .1) (q .2))
-      ]
-
-  without-log : liveLog s c l ≡ none → NoLive s c l → Cases (writeCase s c l)
-  unfolding writeCase victim
-  without-log e nl =
-      rw (is-true (isNone (liveLog s c l)) (eq→eqb (liveLog s c l) none e))
-      (elim (tcase (ltb (liveLogs s c) (s .logs))) [
-        | inl u ↦ rw (is-true (ltb (liveLogs s c) (s .logs)) u) (has-none nl (ltb→lt (liveLogs s c) (s .logs) u))
-        | inr u ↦
-            let k : s .logs ≤ liveLogs s c = nltb→le (liveLogs s c) (s .logs) u in
-            let v : ℕ = lowestBelow (s .blocks) (isLive s c) (λ j. c j .number) in
-            let t : T (isLive s c v) = victim-live (omega (arith, w .fits .limits .logs-low)) in
-            let q : liveLog s c (c v .logical) ≡ v = liveLog-is s c (w .wf) v (c v .logical) t refl in
-            rw (is-false (ltb (liveLogs s c) (s .logs)) (T-not (ltb (liveLogs s c) (s .logs)) u))
-            (must-merge (c v .logical) (record {
-              live = subst (λ (i : ℕ). T (isLive s c i)) (sym q) t;
-              logical = ap (λ (i : ℕ). c i .logical) q;
-              why = inr (e, k);
-              only = λ j x y. absurd (nl j x y);
-            }))
-      ])
-
-  pub write-cases : Cases (writeCase s c l)
-  write-cases =
-      elim (liveLog-found s c (w .wf .records) l) [
-        | inl q ↦ with-log (q .passes) (q .logical)
-        | inr q ↦ without-log (q .is) (q .fails)
-      ]
 
   -- ---- the steps before its own
 
@@ -152,15 +78,15 @@ module _ (s : Shape) (im : Image) (w : Sound s im) (l : ℕ) where
 
     -- ---- the merge of m
 
-    module _ (m : ℕ) (q : MergeFirst m) (fit : highest s c + 2 ≤ numberLimit) where
+    module _ (m : ℕ) (q : MergeFirst s im w l m) (fit : highest s c + 2 ≤ numberLimit) where
       abbrev v : ℕ
       v = liveLog s c m
 
       v-below : v < s .blocks
-      v-below = used-below s c (w .wf .records) v (live-used s c v (q .live))
+      v-below = merge-log s im w l q
 
       m-below : m < s .logical
-      m-below = subst (λ (i : ℕ). i < s .logical) (q .logical) (w .wf .records .inRange v (live-used s c v (q .live)))
+      m-below = merge-logical s im w l q
 
       one : newNumber s c ≤ numberLimit
       one = omega arith
@@ -169,7 +95,7 @@ module _ (s : Shape) (im : Image) (w : Sound s im) (l : ℕ) where
       gone : (im′ : Image) → LiveIs s c (blocksOf s im′) → NoLive s (blocksOf s im′) m → T (isLive s (blocksOf s im′) v) → ⊥
       gone im′ f none′ t = none′ v t (ap (λ (z : Block). z .logical) (f v t .1) ∙ q .logical)
 
-      merge-cost : (e : ℕ) (im′ : Image) → After s im m e im′
+      merge-cost : (e : ℕ) (im′ : Image) → After s im m (contentOf s im) e im′
           → ((logPages s (blocksOf s im′) + s .pages ≤ logPages s c + 0) × (e + obsoletes s im′ ≤ 2)) ⊎ Victim s im l
       merge-cost e im′ r =
           elim (q .why) [
@@ -187,17 +113,17 @@ module _ (s : Shape) (im : Image) (w : Sound s im) (l : ℕ) where
       copying-pre e im′ r =
           record {
             sound = r .0 .sound;
-            holds = r .0 .same;
+            holds = r .0 .holds;
             total = r .0 .total;
             noLive = keeps im′ (r .0 .live);
             cost = inl (omega (arith, logPages-is s c (blocksOf s im′) (r .0 .live)), r .1);
           }
 
-      copied-pre : (e : ℕ) (im′ : Image) → After s im m e im′ → Pre e im′
+      copied-pre : (e : ℕ) (im′ : Image) → After s im m (contentOf s im) e im′ → Pre e im′
       copied-pre e im′ r =
           record {
             sound = r .0 .sound;
-            holds = r .0 .same;
+            holds = r .0 .holds;
             total = r .0 .total;
             noLive = keeps im′ (r .0 .live);
             cost = inr (merge-cost e im′ r);
@@ -205,7 +131,7 @@ module _ (s : Shape) (im : Image) (w : Sound s im) (l : ℕ) where
 
       merge-goal : Goal (merging m)
       merge-goal = (
-        merge-along s im w rec m m-below one Pre copying-pre copied-pre,
+        merge-along s im w m rec m-below one Pre copying-pre copied-pre,
         record {
           before = copied-pre e₁ im₁ r;
           clean = r′;
@@ -228,11 +154,11 @@ module _ (s : Shape) (im : Image) (w : Sound s im) (l : ℕ) where
           im₁ : Image
           im₁ = stepsDone s (mergeList s im c m) im
 
-          r : After s im m e₁ im₁
-          r = merge-end s im w rec m m-below one .0
+          r : After s im m (contentOf s im) e₁ im₁
+          r = merge-end s im w m rec m-below one .0
 
           r′ : Recovered s (blocksOf s im₁)
-          r′ = merge-end s im w rec m m-below one .1
+          r′ = merge-end s im w m rec m-below one .1
 
           none-of-l : NoLive s (blocksOf s im₁) l
           none-of-l j t e =
@@ -240,7 +166,7 @@ module _ (s : Shape) (im : Image) (w : Sound s im) (l : ℕ) where
               gone im₁ (r .0 .live) (r .1)
               (subst (λ (i : ℕ). T (isLive s (blocksOf s im₁) i)) (q .only j (y .0) (ap (λ (z : Block). z .logical) (sym (y .1)) ∙ e)) t)
 
-    pub pre-goal : (k : Case) → Cases k → highest s c + numbersNeeded k ≤ numberLimit → Goal k
+    pub pre-goal : (k : Case) → Cases s im w l k → highest s c + numbersNeeded k ≤ numberLimit → Goal k
     unfolding stepsDone
     pre-goal room (has-room t e h) fit = (
       pre-start,

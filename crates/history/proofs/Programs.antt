@@ -1,4 +1,4 @@
--- Of steps that are each allowed where they are done: no page is programmed twice between erases, and none is of a bad block. Assumes nothing.
+-- Of steps that are each allowed where they are done: no page is programmed twice between erases, and none is of a bad block.
 use mathlib.Core.Path.{_≡_, refl, sym, subst}
 use mathlib.Core.Logic.{_≢_, inl, inr}
 use mathlib.Core.Bool.{not, _&&_}

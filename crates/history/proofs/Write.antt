@@ -1,4 +1,4 @@
--- A write: every cut of it, and its end. Assumes nothing.
+-- A write: every cut of it, and its end.
 use mathlib.Core.Path.{_≡_, refl, sym, ap, _∙_, subst}
 use mathlib.Core.Logic.{inl, inr}
 use mathlib.Core.Bool.{cond}
@@ -24,10 +24,11 @@ use Rattle.laws.proofs.Along.{Allowed, Along, along-map, programs-append, progr
 use Rattle.laws.proofs.Steps.{nextStep, Programmed}
 use Rattle.laws.proofs.Erasing.{Sound, contentOf, obsoletes, Erasing}
 use Rattle.laws.proofs.Merge.{merge-programs}
+use Rattle.laws.proofs.Cases.{Victim, write-cases}
 use Rattle.history.proofs.Cost.{logPages, logPages-is}
 use Rattle.history.proofs.Plan.{Happened, PlanOk, written, written-same}
 use Rattle.history.proofs.Own.{Ready, Appends, Fills, done, b-below, own-appends, own-fills}
-use Rattle.history.proofs.Prepare.{Victim, none-in, write-cases, Prepared, pre-goal}
+use Rattle.history.proofs.Prepare.{none-in, Prepared, pre-goal}
 
 -- ---- its own program, from an image that is ready
 

@@ -1,4 +1,4 @@
--- Demands 2 and 3 of every history, as statements; docs/PROMISES.md has them in words, and proofs/Demands.antt the proofs. Assumes nothing.
+-- Demands 2 and 3 of every history, as statements; docs/PROMISES.md has them in words, and proofs/Demands.antt the proofs.
 use mathlib.Core.Path.{_≡_}
 use mathlib.Core.Logic.{_≢_, _⊎_}
 use mathlib.Core.Bool.{Bool}
@@ -13,8 +13,8 @@ use Rattle.rules.specs.Shape.{blockOf, inRange}
 use Rattle.rules.specs.Page.{Image}
 use Rattle.rules.specs.WellFormed.{isFree, isBad, blocksOf, wellFormed}
 use Rattle.rules.specs.Steps.{programs, erases, stepsDone, taken, writeCase, mergeFirst, writeList}
-use Rattle.rules.specs.Replies.{number, outsideLimits, tooFewGood, unrecovered, readReply, powerUpReply, writeReply, writeRefusal, imageLeft, tableOf, tableLeft, pageLeft, lentPage, lentBytes}
-use Rattle.history.specs.History.{Command, read, replyTo, History, end, shape, replyThen, answerThen, leftThen, events, pageAfter, lastWrite, counted, wasCut, howMany, erasesIn, FallIn, allSteps, neverTwice, FindErased, leftAlone}
+use Rattle.rules.specs.Replies.{number, outsideLimits, tooFewGood, unrecovered, formatReply, readReply, powerUpReply, writeReply, writeRefusal, imageLeft, tableOf, tableLeft, pageLeft, lentPage, lentBytes}
+use Rattle.history.specs.History.{Command, read, replyTo, History, end, shape, replyThen, answerThen, leftThen, events, pageAfter, lastWrite, doneOrCut, wasCut, howMany, Tells, erasesIn, FallIn, allSteps, neverTwice, FindErased, leftAlone}
 
 -- ---- demand 2
 
@@ -61,15 +61,20 @@ StaysWellFormed =
 
 -- ---- demand 3
 
+-- Every answer's counts, of programs and of erases, are those of the steps done.
+abbrev pub CountsAreOfTheSteps : Type 0
+CountsAreOfTheSteps =
+    (s : Shape) (im : Image) → ((cut : ℕ) → Tells (formatReply s im cut)) × ((x : Command) → Tells (replyTo s im x))
+
 -- n writes answered 0 or 8: at most 2n erases.
 abbrev pub AtMostTwiceTheWrites : Type 0
-AtMostTwiceTheWrites = (h : History) → erasesIn (events h) ≤ 2 * howMany counted (events h)
+AtMostTwiceTheWrites = (h : History) → erasesIn (events h) ≤ 2 * howMany doneOrCut (events h)
 
 -- If those writes, all n, fall in at most K logical blocks, which S marks, and c of them are answered 8: at most 2 x floor(n / P) + c erases.
 abbrev pub FewLogicalBlocks : Type 0
 FewLogicalBlocks =
     (h : History) (S : ℕ → Bool) → countBelow (h .logical) S ≤ h .logs → FallIn (shape h) S (events h)
-    → erasesIn (events h) ≤ 2 * (howMany counted (events h) / h .pages) + howMany wasCut (events h)
+    → erasesIn (events h) ≤ 2 * (howMany doneOrCut (events h) / h .pages) + howMany wasCut (events h)
 
 -- none of 1 to 7 refuses the write of page a with the bytes d
 abbrev pub NotRefused : Shape → Image → ℕ → List ℕ → Type 0
@@ -119,8 +124,12 @@ WriteLeavesRecovered =
 abbrev pub FreeToTake : Shape → Image → Type 0
 FreeToTake s im = T (isFree (blocksOf s im (taken s (blocksOf s im)) .state))
 
--- Where a write that is not refused takes a block, for its merge and after it, there is a free one.
+-- Every recovered card has a free block to take.
 abbrev pub ThereIsAFreeBlock : Type 0
-ThereIsAFreeBlock =
+ThereIsAFreeBlock = (s : Shape) (im : Image) → RecoveredCard s im → FreeToTake s im
+
+-- So has one after the merge of a write that is not refused.
+abbrev pub AFreeBlockAfterTheMerge : Type 0
+AFreeBlockAfterTheMerge =
     (s : Shape) (im : Image) (a : ℕ) (d : List ℕ) → NotRefused s im a d
-    → FreeToTake s im × FreeToTake s (stepsDone s (mergeFirst s im (blocksOf s im) (writeCase s (blocksOf s im) (blockOf s a))) im)
+    → FreeToTake s (stepsDone s (mergeFirst s im (blocksOf s im) (writeCase s (blocksOf s im) (blockOf s a))) im)

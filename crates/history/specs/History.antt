@@ -1,4 +1,4 @@
--- Histories: a format that is answered 0, and then any reads, writes and power-ups, refused ones too. Assumes nothing.
+-- Histories: a format that is answered 0, and then any reads, writes and power-ups, refused ones too.
 --
 -- A later format begins a history of its own, since the image given is any image, and one that is cut promises only its steps. Page lending
 -- changes nothing.
@@ -12,8 +12,8 @@ use Rattle.rules.specs.declared.shape.Shape.{Shape}
 use Rattle.rules.specs.Spare.{logKind, kindIn, addressIn}
 use Rattle.rules.specs.Shape.{blockOf}
 use Rattle.rules.specs.Page.{Image, pageBytes, pageSpare, erased}
-use Rattle.rules.specs.Steps.{Step, program, erase, stepDone}
-use Rattle.rules.specs.Replies.{Reply, number, erasesOf, shapeFor, imageLeft, formatReply, powerUpReply, readReply, writeReply}
+use Rattle.rules.specs.Steps.{Step, program, erase, stepDone, programs, erases}
+use Rattle.rules.specs.Replies.{Reply, number, programsOf, erasesOf, shapeFor, imageLeft, formatReply, powerUpReply, readReply, writeReply}
 
 -- ---- commands, with any page number, any buffer and table, any bytes and any cut
 
@@ -131,14 +131,18 @@ lastWrite es a = lastFrom es a (replicate 512 255)
 
 -- ---- the counts of demand 3
 
+-- the counts of an answer are those of its steps
+abbrev pub Tells : Reply → Type 0
+Tells r = (programsOf (r .answer) ≡ programs (r .steps)) × (erasesOf (r .answer) ≡ erases (r .steps))
+
 abbrev pub isWrite : Command → Bool
 isWrite (read a buffer) = false
 isWrite (write a d cut) = true
 isWrite (powerUp table cut) = false
 
 -- a write answered 0 or 8
-abbrev pub counted : Event → Bool
-counted e = isWrite (e .command) && (answered 0 (e .reply) || answered 8 (e .reply))
+abbrev pub doneOrCut : Event → Bool
+doneOrCut e = isWrite (e .command) && (answered 0 (e .reply) || answered 8 (e .reply))
 
 -- a write answered 8
 abbrev pub wasCut : Event → Bool
@@ -148,10 +152,10 @@ abbrev pub howMany : (Event → Bool) → List Event → ℕ
 howMany p [] = 0
 howMany p (e ∷ es) = cond (p e) 1 0 + howMany p es
 
--- the erases of writes and power-ups, as the answers count them. (A read has none.)
+-- the erases among the steps done by writes and power-ups. (A read has none.)
 abbrev pub erasesIn : List Event → ℕ
 erasesIn [] = 0
-erasesIn (e ∷ es) = erasesOf (e .reply .answer) + erasesIn es
+erasesIn (e ∷ es) = erases (e .reply .steps) + erasesIn es
 
 -- the page of a write; of other commands it is never asked
 abbrev pub pageOfWrite : Command → ℕ
@@ -162,7 +166,7 @@ pageOfWrite (powerUp table cut) = 0
 -- those writes, all n, fall in logical blocks that S marks
 abbrev pub FallIn : Shape → (ℕ → Bool) → List Event → Type 0
 FallIn s S [] = Unit {0}
-FallIn s S (e ∷ es) = (T (counted e) → T (S (blockOf s (pageOfWrite (e .command))))) × FallIn s S es
+FallIn s S (e ∷ es) = (T (doneOrCut e) → T (S (blockOf s (pageOfWrite (e .command))))) × FallIn s S es
 
 -- ---- all steps done, the format's first
 

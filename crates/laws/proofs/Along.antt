@@ -1,9 +1,11 @@
--- Lists of steps done to an image, cut anywhere: what holds before and after each step, and that each is allowed. Assumes nothing.
+-- Lists of steps done to an image, cut anywhere: what holds before and after each step, and that each is allowed.
 use mathlib.Core.Path.{_≡_, refl, subst}
 use mathlib.Core.List.{List, [], _∷_, _++_, map}
 use Prim.Native.Nat.{ℕ, zero, suc, _+_, _/_, _<_}
 use native.Mathlib.Omega.{arith}
-use lib.ListN.{take}
+use native.Mathlib.Nat.{le-refl}
+use lib.ListN.{length, take}
+use lib.Seq.{take-all}
 use lib.Dec.{T}
 use Rattle.rules.specs.declared.shape.Shape.{Shape}
 use Rattle.rules.specs.Bytes.{all255}
@@ -36,21 +38,15 @@ AllAllowed s (t ∷ ts) im = Allowed s t im × AllAllowed s ts (stepDone s t im)
 
 -- ---- counts
 
-pub erases-cons : (t : Step) (ts : List Step) → erases (t ∷ ts) ≡ erases (t ∷ []) + erases ts
-erases-cons (program p d u) ts = omega arith
-erases-cons (erase b) ts = omega arith
-
 pub erases-append : (ts us : List Step) → erases (ts ++ us) ≡ erases ts + erases us
 erases-append [] us = omega arith
-erases-append (t ∷ ts) us = omega (arith, erases-cons t (ts ++ us), erases-cons t ts, erases-append ts us)
-
-pub programs-cons : (t : Step) (ts : List Step) → programs (t ∷ ts) ≡ programs (t ∷ []) + programs ts
-programs-cons (program p d u) ts = omega arith
-programs-cons (erase b) ts = omega arith
+erases-append (program p d u ∷ ts) us = erases-append ts us
+erases-append (erase b ∷ ts) us = omega (arith, erases-append ts us)
 
 pub programs-append : (ts us : List Step) → programs (ts ++ us) ≡ programs ts + programs us
 programs-append [] us = omega arith
-programs-append (t ∷ ts) us = omega (arith, programs-cons t (ts ++ us), programs-cons t ts, programs-append ts us)
+programs-append (program p d u ∷ ts) us = omega (arith, programs-append ts us)
+programs-append (erase b ∷ ts) us = programs-append ts us
 
 pub programs-erases : (xs : List ℕ) → programs (map erase xs) ≡ 0
 programs-erases [] = refl
@@ -74,15 +70,11 @@ module _ (s : Shape) (I : ℕ → Image → Type 0) where
   along-cut n ts im a zero = subst (λ (m : ℕ). I m im) (omega arith) (along-here n ts im a)
   along-cut n [] im a (suc k) = subst (λ (m : ℕ). I m im) (omega arith) a
   along-cut n (t ∷ ts) im a (suc k) =
-      let e : n + erases (t ∷ []) + erases (take k ts) ≡ n + erases (t ∷ take k ts) = omega (arith, erases-cons t (take k ts)) in
+      let e : n + erases (t ∷ []) + erases (take k ts) ≡ n + erases (t ∷ take k ts) = omega (arith, erases-append (t ∷ []) (take k ts)) in
       subst (λ (m : ℕ). I m (stepsDone s (take k ts) (stepDone s t im))) e (along-cut (n + erases (t ∷ [])) ts (stepDone s t im) (a .2) k)
 
   pub along-end : (n : ℕ) (ts : List Step) (im : Image) → Along s I n ts im → I (n + erases ts) (stepsDone s ts im)
-  unfolding stepsDone
-  along-end n [] im a = subst (λ (m : ℕ). I m im) (omega arith) a
-  along-end n (t ∷ ts) im a =
-      let e : n + erases (t ∷ []) + erases ts ≡ n + erases (t ∷ ts) = omega (arith, erases-cons t ts) in
-      subst (λ (m : ℕ). I m (stepsDone s ts (stepDone s t im))) e (along-end (n + erases (t ∷ [])) ts (stepDone s t im) (a .2))
+  along-end n ts im a = rw (take-all (length ts) ts (le-refl (length ts))) at (along-cut n ts im a (length ts))
 
   pub along-allowed : (n : ℕ) (ts : List Step) (im : Image) → Along s I n ts im → AllAllowed s ts im
   along-allowed n [] im a = tt
@@ -93,7 +85,7 @@ module _ (s : Shape) (I : ℕ → Image → Type 0) where
   unfolding stepsDone
   along-append n [] us im a b = subst (λ (m : ℕ). Along s I m us im) (omega arith) b
   along-append n (t ∷ ts) us im a b =
-      let e : n + erases (t ∷ ts) ≡ n + erases (t ∷ []) + erases ts = omega (arith, erases-cons t ts) in (
+      let e : n + erases (t ∷ ts) ≡ n + erases (t ∷ []) + erases ts = omega (arith, erases-append (t ∷ []) ts) in (
         a .0,
         a .1,
         along-append (n + erases (t ∷ [])) ts us (stepDone s t im) (a .2)

@@ -1,27 +1,35 @@
--- Laws of the tests, counts, searches and lists over the numbers below n. Assumes nothing.
+-- Laws of the tests, counts, searches and lists over the numbers below n.
 use mathlib.Core.Path.{_≡_, refl, sym, ap, _∙_, subst}
 use mathlib.Core.Logic.{_≢_, _⊎_, inl, inr}
-use mathlib.Core.Bool.{Bool, true, false, not, cond, _&&_}
+use mathlib.Core.Bool.{Bool, true, false, cond, _&&_}
 use mathlib.Core.List.{List, [], _∷_, _++_}
 use Prim.Native.Nat.{ℕ, zero, suc, _+_, _-_, _≤_, _<_, max}
 use native.Mathlib.Omega.{arith}
 use lib.ListN.{length, getD, take, length-append, List·getD-append}
-use lib.Seq.{getD-append-seam, take-all, take-append-le}
+use lib.Seq.{ext-getD, getD-append-seam, take-all, take-append-le}
 use lib.Dec.{T, ltb, eqb, ltb→lt, nltb→le, eqb→eq, eqb-refl, T-not}
 use native.Mathlib.Numerals.{add-one}
 use Rattle.rules.specs.Below.{none, isNone, ifAny, orNone, lowerOf, allBelow, countBelow, highestBelow, firstBelow, lowestBelow, pickBelow, listBelow}
 use Rattle.laws.proofs.Tests.{tcase, is-true, is-false, and-l, and-r, and-i, cond-yes, cond-no, cond-both, dec-eq, dec-lt, eq→eqb, ne→eqb}
+
+-- what is made of f 0, .., f (n - 1), one after the other, is the same for two that agree there
+below-same : {A B : Type 0} (F : ℕ → (ℕ → A) → B) (G : ℕ → B → A → B) → ((f g : ℕ → A) → F 0 f ≡ F 0 g) → ((n : ℕ) (f : ℕ → A) → F (suc n) f ≡ G n (F n f) (f n))
+    → (n : ℕ) (f g : ℕ → A) → ((j : ℕ) → j < n → f j ≡ g j) → F n f ≡ F n g
+below-same F G none more zero f g h = none f g
+below-same F G none more (suc n) f g h =
+    let a = below-same F G none more n f g (λ j k. h j (omega arith)) in
+    more n f ∙ rw (a, h n (omega arith)) (sym (more n g))
+
+-- what holds of each below n, and of n, holds of each below n + 1
+pub below-suc : {n : ℕ} (Q : ℕ → Type 0) → ((j : ℕ) → j < n → Q j) → Q n → (j : ℕ) → j < suc n → Q j
+below-suc {n} Q f q j h = elim (dec-eq j n) [ inl e ↦ subst Q (sym e) q | inr ne ↦ f j (omega arith) ]
 
 -- ---- allBelow
 
 pub allBelow-at : (n : ℕ) (p : ℕ → Bool) → T (allBelow n p) → (j : ℕ) → j < n → T (p j)
 unfolding allBelow
 allBelow-at zero p t j h = absurd (omega arith)
-allBelow-at (suc n) p t j h =
-    elim (dec-eq j n) [
-      | inl e ↦ subst (λ (i : ℕ). T (p i)) (sym e) (and-r (allBelow n p) (p n) t)
-      | inr q ↦ allBelow-at n p (and-l (allBelow n p) (p n) t) j (omega arith)
-    ]
+allBelow-at (suc n) p t j h = below-suc (λ i. T (p i)) (allBelow-at n p (and-l (allBelow n p) (p n) t)) (and-r (allBelow n p) (p n) t) j h
 
 pub allBelow-all : (n : ℕ) (p : ℕ → Bool) → ((j : ℕ) → j < n → T (p j)) → T (allBelow n p)
 unfolding allBelow
@@ -30,23 +38,7 @@ allBelow-all (suc n) p f = and-i (allBelow n p) (p n) (allBelow-all n p (λ j h.
 
 pub allBelow-same : (n : ℕ) (p q : ℕ → Bool) → ((j : ℕ) → j < n → p j ≡ q j) → allBelow n p ≡ allBelow n q
 unfolding allBelow
-allBelow-same zero p q h = refl
-allBelow-same (suc n) p q h =
-    let a : allBelow n p ≡ allBelow n q = allBelow-same n p q (λ j k. h j (omega arith)) in
-    let b : p n ≡ q n = h n (omega arith) in
-    cc
-
--- two tests of all are one
-pub allBelow-and : (n : ℕ) (p q : ℕ → Bool) → (allBelow n p && allBelow n q) ≡ allBelow n (λ j. p j && q j)
-unfolding allBelow
-allBelow-and zero p q = refl
-allBelow-and (suc n) p q = exchange (allBelow n p) (p n) (allBelow n q) (q n) ∙ ap (λ (t : Bool). t && (p n && q n)) (allBelow-and n p q)
-  where
-    exchange : (a b c d : Bool) → ((a && b) && (c && d)) ≡ ((a && c) && (b && d))
-    exchange true true c d = refl
-    exchange true false true d = refl
-    exchange true false false d = refl
-    exchange false b c d = refl
+allBelow-same = below-same allBelow (λ n r x. r && x) (λ f g. refl) (λ n f. refl)
 
 -- ---- sums, of which countBelow is one
 
@@ -99,15 +91,6 @@ sumBelow-move (suc n) f g b a k l h e =
           omega arith
     ]
 
-pub sumBelow-at : (n : ℕ) (f : ℕ → ℕ) (j : ℕ) → j < n → f j ≤ sumBelow n f
-unfolding sumBelow
-sumBelow-at zero f j h = absurd (omega arith)
-sumBelow-at (suc n) f j h =
-    elim (dec-eq j n) [
-      | inl e ↦ subst (λ (k : ℕ). f k ≤ sumBelow n f + f n) (sym e) (omega arith)
-      | inr q ↦ let r = sumBelow-at n f j (omega arith) in omega arith
-    ]
-
 pub sumBelow-zero : (n : ℕ) (f : ℕ → ℕ) → ((j : ℕ) → j < n → f j ≡ 0) → sumBelow n f ≡ 0
 unfolding sumBelow
 sumBelow-zero zero f h = refl
@@ -136,14 +119,6 @@ countBelow-sum (suc n) p = ap (λ (k : ℕ). k + bit (p n)) (countBelow-sum n p)
 pub countBelow-le : (n : ℕ) (p q : ℕ → Bool) → ((j : ℕ) → j < n → T (p j) → T (q j)) → countBelow n p ≤ countBelow n q
 countBelow-le n p q h =
     omega (arith, countBelow-sum n p, countBelow-sum n q, sumBelow-le n (λ j. bit (p j)) (λ j. bit (q j)) (λ j k. bit-mono (p j) (q j) (h j k)))
-
-pub countBelow-same : (n : ℕ) (p q : ℕ → Bool) → ((j : ℕ) → j < n → p j ≡ q j) → countBelow n p ≡ countBelow n q
-unfolding countBelow
-countBelow-same zero p q h = refl
-countBelow-same (suc n) p q h =
-    let a : countBelow n p ≡ countBelow n q = countBelow-same n p q (λ j k. h j (omega arith)) in
-    let b : p n ≡ q n = h n (omega arith) in
-    cc
 
 -- the tests agree but at b, where the count may lose a and gain k
 pub countBelow-move : (n : ℕ) (p q : ℕ → Bool) (b a k : ℕ) → b < n → ((j : ℕ) → j < n → j ≢ b → T (q j) → T (p j)) → bit (q b) + a ≤ bit (p b) + k
@@ -185,10 +160,7 @@ unfolding countBelow
 countBelow-full zero p e j h = absurd (omega arith)
 countBelow-full (suc n) p e j h =
     elim (tcase (p n)) [
-      | inl t ↦ elim (dec-eq j n) [
-        | inl q ↦ subst (λ (k : ℕ). T (p k)) (sym q) t
-        | inr q ↦ countBelow-full n p (omega (arith, bit-one (p n) t)) j (omega arith)
-      ]
+      | inl t ↦ below-suc (λ k. T (p k)) (countBelow-full n p (omega (arith, bit-one (p n) t))) t j h
       | inr t ↦ absurd (omega (arith, bit-zero (p n) (T-not (p n) t), countBelow-most n p))
     ]
 
@@ -296,11 +268,7 @@ module _ (p : ℕ → Bool) where
 pub highestBelow-ge : (n : ℕ) (f : ℕ → ℕ) (j : ℕ) → j < n → f j ≤ highestBelow n f
 unfolding highestBelow
 highestBelow-ge zero f j h = absurd (omega arith)
-highestBelow-ge (suc n) f j h =
-    elim (dec-eq j n) [
-      | inl e ↦ subst (λ (k : ℕ). f k ≤ max (highestBelow n f) (f n)) (sym e) (omega arith)
-      | inr q ↦ let r = highestBelow-ge n f j (omega arith) in omega arith
-    ]
+highestBelow-ge (suc n) f j h = below-suc (λ k. f k ≤ max (highestBelow n f) (f n)) (λ k l. omega (arith, highestBelow-ge n f k l)) (omega arith) j h
 
 pub highestBelow-le : (n : ℕ) (f : ℕ → ℕ) (t : ℕ) → ((j : ℕ) → j < n → f j ≤ t) → highestBelow n f ≤ t
 unfolding highestBelow
@@ -319,14 +287,6 @@ highestBelow-at (suc n) f h =
       | inl l ↦ (n, omega arith, omega arith)
       | inr l ↦ let r = highestBelow-at n f (omega arith) in (r .0, omega (arith, r .1), omega (arith, r .2))
     ]
-
-pub highestBelow-same : (n : ℕ) (f g : ℕ → ℕ) → ((j : ℕ) → j < n → f j ≡ g j) → highestBelow n f ≡ highestBelow n g
-unfolding highestBelow
-highestBelow-same zero f g h = refl
-highestBelow-same (suc n) f g h =
-    let a : highestBelow n f ≡ highestBelow n g = highestBelow-same n f g (λ j k. h j (omega arith)) in
-    let b : f n ≡ g n = h n (omega arith) in
-    cc
 
 -- ---- firstBelow
 
@@ -359,15 +319,7 @@ firstBelow-found (suc n) p h =
           rw (orNone-none (firstBelow n p) (cond (p n) n none) (r .is))
           (elim (tcase (p n)) [
             | inl t ↦ inl (rw (cond-yes (p n) n none t) (record { below = omega arith; passes = t; first = r .fails }))
-            | inr t ↦
-                inr (rw (cond-no (p n) n none (T-not (p n) t))
-                (record {
-                  is = refl;
-                  fails = λ j k u. elim (dec-eq j n) [
-                    | inl q ↦ T-not (p n) t (subst (λ (i : ℕ). T (p i)) q u)
-                    | inr q ↦ r .fails j (omega arith) u
-                  ];
-                }))
+            | inr t ↦ inr (rw (cond-no (p n) n none (T-not (p n) t)) (record { is = refl; fails = below-suc (λ j. T (p j) → ⊥) (r .fails) (T-not (p n) t) }))
           ])
     ]
 
@@ -387,11 +339,7 @@ firstBelow-none n p h f = elim (firstBelow-found n p h) [ inl r ↦ absurd (f (f
 
 pub firstBelow-same : (n : ℕ) (p q : ℕ → Bool) → ((j : ℕ) → j < n → p j ≡ q j) → firstBelow n p ≡ firstBelow n q
 unfolding firstBelow
-firstBelow-same zero p q h = refl
-firstBelow-same (suc n) p q h =
-    let a : firstBelow n p ≡ firstBelow n q = firstBelow-same n p q (λ j k. h j (omega arith)) in
-    let b : p n ≡ q n = h n (omega arith) in
-    ap (λ (k : ℕ). orNone k (cond (p n) n none)) a ∙ ap (λ (t : Bool). orNone (firstBelow n q) (cond t n none)) b
+firstBelow-same = below-same firstBelow (λ n r x. orNone r (cond x n none)) (λ f g. refl) (λ n f. refl)
 
 -- ---- lowestBelow
 
@@ -410,28 +358,18 @@ lowestBelow-found (suc n) p f h =
       | inr t ↦
           rw (is-false (p n) (T-not (p n) t))
           (elim (lowestBelow-found n p f (omega arith)) [
-            | inl r ↦
-                inl (record {
-                  below = omega (arith, r .below);
-                  passes = r .passes;
-                  lowest = λ j k u. elim (dec-eq j n) [ inl q ↦ absurd (out t j q u) | inr q ↦ r .lowest j (omega arith) u ];
-                })
-            | inr r ↦
-                inr (record { is = r .is; fails = λ j k u. elim (dec-eq j n) [ inl q ↦ out t j q u | inr q ↦ r .fails j (omega arith) u ] })
+            | inl r ↦ inl (lowest-of (lowestBelow n p f) (omega (arith, r .below)) (r .passes) (r .lowest) (λ u. absurd (T-not (p n) t u)))
+            | inr r ↦ inr (record { is = r .is; fails = below-suc (λ j. T (p j) → ⊥) (r .fails) (T-not (p n) t) })
           ])
     ]
   where
-    out : T (not (p n)) → (j : ℕ) → j ≡ n → T (p j) → ⊥
-    out t j q u = T-not (p n) t (subst (λ (i : ℕ). T (p i)) q u)
+    lowest-of : (i : ℕ) → i < suc n → T (p i) → ((j : ℕ) → j < n → T (p j) → f i ≤ f j) → (T (p n) → f i ≤ f n) → Lowest (suc n) p f i
+    lowest-of i h t g l = record { below = h; passes = t; lowest = below-suc (λ j. T (p j) → f i ≤ f j) g l }
 
     alone : T (p n) → NoneBelow n p (lowestBelow n p f) → Lowest (suc n) p f (lowerOf f (lowestBelow n p f) n)
     alone t r =
         rw (is-true (isNone (lowestBelow n p f)) (eq→eqb (lowestBelow n p f) none (r .is)))
-        (record {
-          below = omega arith;
-          passes = t;
-          lowest = λ j k u. elim (dec-eq j n) [ inl q ↦ rw q (omega arith) | inr q ↦ absurd (r .fails j (omega arith) u) ];
-        })
+        (lowest-of n (omega arith) t (λ j k u. absurd (r .fails j k u)) (λ u. omega arith))
 
     lower : T (p n) → Lowest n p f (lowestBelow n p f) → Lowest (suc n) p f (lowerOf f (lowestBelow n p f) n)
     lower t r =
@@ -440,24 +378,10 @@ lowestBelow-found (suc n) p f h =
         (elim (tcase (ltb (f n) (f (lowestBelow n p f)))) [
           | inl u ↦
               rw (is-true (ltb (f n) (f (lowestBelow n p f))) u)
-              (record {
-                below = omega arith;
-                passes = t;
-                lowest = λ j k v. elim (dec-eq j n) [
-                  | inl q ↦ rw q (omega arith)
-                  | inr q ↦ omega (arith, ltb→lt (f n) (f (lowestBelow n p f)) u, r .lowest j (omega arith) v)
-                ];
-              })
+              (lowest-of n (omega arith) t (λ j k v. omega (arith, ltb→lt (f n) (f (lowestBelow n p f)) u, r .lowest j k v)) (λ v. omega arith))
           | inr u ↦
               rw (is-false (ltb (f n) (f (lowestBelow n p f))) (T-not (ltb (f n) (f (lowestBelow n p f))) u))
-              (record {
-                below = omega (arith, r .below);
-                passes = r .passes;
-                lowest = λ j k v. elim (dec-eq j n) [
-                  | inl q ↦ rw q (omega (arith, nltb→le (f n) (f (lowestBelow n p f)) u))
-                  | inr q ↦ r .lowest j (omega arith) v
-                ];
-              })
+              (lowest-of (lowestBelow n p f) (omega (arith, r .below)) (r .passes) (r .lowest) (λ v. nltb→le (f n) (f (lowestBelow n p f)) u))
         ])
 
 -- ---- lists of numbers
@@ -557,14 +481,6 @@ pickBelow-out (suc n) p j h t a =
       | inr q ↦ pickBelow-out n p j (omega arith) t (all-left (λ x. j ≢ x) (pickBelow n p) (cond (p n) (n ∷ []) []) a)
     ]
 
-pub pickBelow-same : (n : ℕ) (p q : ℕ → Bool) → ((j : ℕ) → j < n → p j ≡ q j) → pickBelow n p ≡ pickBelow n q
-unfolding pickBelow
-pickBelow-same zero p q h = refl
-pickBelow-same (suc n) p q h =
-    let a : pickBelow n p ≡ pickBelow n q = pickBelow-same n p q (λ j k. h j (omega arith)) in
-    let b : p n ≡ q n = h n (omega arith) in
-    cc
-
 -- ---- listBelow
 
 module _ {A : Type 0} where
@@ -594,11 +510,12 @@ module _ {A : Type 0} where
 
   pub listBelow-same : (n : ℕ) (f g : ℕ → A) → ((i : ℕ) → i < n → f i ≡ g i) → listBelow n f ≡ listBelow n g
   unfolding listBelow
-  listBelow-same zero f g h = refl
-  listBelow-same (suc n) f g h =
-      let a : listBelow n f ≡ listBelow n g = listBelow-same n f g (λ i k. h i (omega arith)) in
-      let b : f n ≡ g n = h n (omega arith) in
-      cc
+  listBelow-same = below-same listBelow (λ n r x. r ++ (x ∷ [])) (λ f g. refl) (λ n f. refl)
+
+  -- a list of n that has f 0, .., f (n - 1) is this one
+  pub listBelow-ext : (n : ℕ) (f : ℕ → A) (d : A) {xs : List A} → length xs ≡ n → ((i : ℕ) → i < n → getD xs i d ≡ f i) → xs ≡ listBelow n f
+  listBelow-ext n f d {xs} long at =
+      ext-getD d xs (listBelow n f) (long ∙ sym (listBelow-length n f)) (λ i h. let k : i < n = omega arith in at i k ∙ sym (listBelow-at n f i d k))
 
   -- the first k of them
   pub listBelow-take : (n k : ℕ) (f : ℕ → A) → k ≤ n → take k (listBelow n f) ≡ listBelow k f
@@ -656,13 +573,8 @@ allBelow-zero p = refl
 
 -- one turn of a search for the first that passes
 pub first-turn : (p : ℕ → Bool) (j : ℕ) {t r : ℕ} {b : Bool} → t ≡ firstBelow j p → b ≡ p j → r ≡ orNone t (cond b j none) → r ≡ firstBelow (j + 1) p
-first-turn p j {t} {r} {b} e f g =
-    g ∙ ap (λ (u : Bool). orNone t (cond u j none)) f ∙ ap (λ (u : ℕ). orNone u (cond (p j) j none)) e ∙ sym (firstBelow-more j p)
+first-turn p j e f g = g ∙ rw (f, e) (sym (firstBelow-more j p))
 
 -- and of a test of all
 pub all-turn : (p : ℕ → Bool) (j : ℕ) {t r b : Bool} → t ≡ allBelow j p → b ≡ p j → r ≡ (t && b) → r ≡ allBelow (j + 1) p
-all-turn p j {t} {r} {b} e f g = g ∙ ap (λ (u : Bool). t && u) f ∙ ap (λ (u : Bool). u && p j) e ∙ sym (allBelow-more j p)
-
--- and of a maximum
-pub highest-turn : (f : ℕ → ℕ) (j : ℕ) {t x r : ℕ} → t ≡ highestBelow j f → x ≡ f j → r ≡ max t x → r ≡ highestBelow (j + 1) f
-highest-turn f j {t} {x} {r} e g h = h ∙ ap (max t) g ∙ ap (λ (u : ℕ). max u (f j)) e ∙ sym (highestBelow-more j f)
+all-turn p j e f g = g ∙ rw (f, e) (sym (allBelow-more j p))

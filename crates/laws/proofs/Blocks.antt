@@ -1,4 +1,4 @@
--- The record of a block after a step, and the pages that a record stands for. Assumes nothing.
+-- The record of a block after a step, and the pages that a record stands for.
 use mathlib.Core.Path.{_≡_, refl, sym, ap, _∙_, subst}
 use mathlib.Core.Logic.{_≢_, _⊎_, inl, inr, ⊎-elim}
 use mathlib.Core.Bool.{Bool, true, not, _&&_, _||_}
@@ -19,7 +19,7 @@ use Rattle.rules.specs.Spare.{numberLimit, copyKind, numberIn, kindIn, statusIn
 use Rattle.rules.specs.Shape.{pageNo, blockOf, offsetOf, logicalPage, inRange}
 use Rattle.rules.specs.Page.{Image, pageBytes, pageSpare, pageAt, isEntry, numberOf, kindOf, addressOf}
 use Rattle.rules.specs.WellFormed.{notUsed, inOrder, goodBlock, isBad, pagesOf, blockAt, blocksOf, isGood, isUsed, isFree}
-use Rattle.rules.specs.Steps.{Step, program, erase, stepDone, stepsDone}
+use Rattle.rules.specs.Steps.{Step, erase, stepDone, stepsDone, entryStep, copyStep}
 use Rattle.rules.specs.Facts.{Fits}
 use Rattle.laws.proofs.Tests.{tcase, is-true, and-i, dec-eq, dec-lt, eq→eqb}
 use Rattle.laws.proofs.Below.{All, allBelow-at, listBelow-same}
@@ -180,7 +180,7 @@ pub record Writable (n k a : ℕ) : Type 0 where
 module _ (s : Shape) (im : Image) (w : Fits s im) (b : ℕ) (hb : b < s .blocks) {n k l m a : ℕ} (f : BlockFilled s im b n k l m) (x : NextPage s k l m a)
     (e : Writable n k a) (d : List ℕ) (hd : length d ≡ 512) where
   after : Image
-  after = stepDone s (program (pageNo s b m) d (spareBytes n k a)) im
+  after = stepDone s (entryStep (pageNo s b m) n k a d) im
 
   programs : Programs s (pageNo s b m) d (spareBytes n k a)
   programs = record { page-in = pageNo-below s b m hb (x .room); bytes-long = hd; spare-long = spareBytes-length n k a }
@@ -208,12 +208,12 @@ module _ (s : Shape) (im : Image) (w : Fits s im) (b : ℕ) (hb : b < s .blocks)
         | inr z ↦ ap statusIn (other 0 (omega (arith, x .room)) z .spare-are) ∙ good-status s im b (f .good)
       ]
 
-  pub program-blockFilled : BlockFilled s (stepDone s (program (pageNo s b m) d (spareBytes n k a)) im) b n k l (m + 1)
+  pub program-blockFilled : BlockFilled s (stepDone s (entryStep (pageNo s b m) n k a d) im) b n k l (m + 1)
   unfolding after
   program-blockFilled =
       record { good = status-good s after b status; pages = filled-more s (pagesOf s im b) (pagesOf s after b) (f .pages) x added }
 
-  pub program-inOrder : inOrder s (pagesOf s (stepDone s (program (pageNo s b m) d (spareBytes n k a)) im) b) (m + 1)
+  pub program-inOrder : inOrder s (pagesOf s (stepDone s (entryStep (pageNo s b m) n k a d) im) b) (m + 1)
       ≡ (inOrder s (pagesOf s im b) m && eqb (offsetOf s a) m)
   unfolding after
   program-inOrder = inOrder-more s (pagesOf s im b) (pagesOf s after b) (f .pages) x added
@@ -270,19 +270,16 @@ module _ (s : Shape) (im : Image) (w : Fits s im) (b : ℕ) (hb : b < s .blocks)
       }
 
   pub program-blockAt : (x : Block) → blockAt s im b ≡ x → Joins s x n k a
-      → blockAt s (stepDone s (program (pageNo s b (x .filled)) d (spareBytes n k a)) im) b ≡ oneMore s x n k a
+      → blockAt s (stepDone s (entryStep (pageNo s b (x .filled)) n k a d) im) b ≡ oneMore s x n k a
   program-blockAt x is j =
       let o : Ready x = ⊎-elim (ready-free x is) (λ own. ready-used x is (own .0) (own .1) (own .2) (own .3)) (j .own) in
       let next : NextPage s k (blockOf s a) (x .filled) a = record { room = j .room; in-range = j .in-range; block = refl; offset = j .offset } in
-      let after : Image = stepDone s (program (pageNo s b (x .filled)) d (spareBytes n k a)) im in
+      let after : Image = stepDone s (entryStep (pageNo s b (x .filled)) n k a d) im in
       filled-blockAt s after b (program-blockFilled s im w b hb (o .filled) next e d hd) (omega arith)
       ∙ ap (usedWith n k (blockOf s a) (x .filled + 1))
       (program-inOrder s im w b hb (o .filled) next e d hd ∙ ap (λ (z : Bool). z && eqb (offsetOf s a) (x .filled)) (o .so-far))
 
 -- ---- a block taken, and its pages programmed in order as a copy of logical block l, with the bytes d
-
-abbrev pub copyStep : Shape → ℕ → ℕ → ℕ → (ℕ → List ℕ) → ℕ → Step
-copyStep s b n l d o = program (pageNo s b o) (d o) (spareBytes n copyKind (logicalPage s l o))
 
 -- im′ is what the first i of these steps leave of im
 pub record Copied (s : Shape) (im : Image) (b n l : ℕ) (d : ℕ → List ℕ) (i : ℕ) (im′ : Image) : Type 0 where

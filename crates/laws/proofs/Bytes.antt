@@ -1,17 +1,14 @@
--- Laws of lists of bytes: all 255, a part, a part replaced. Assumes nothing.
+-- Laws of lists of bytes: all 255, a part, a part replaced.
 use mathlib.Core.Path.{_≡_, refl, sym, ap, _∙_}
 use mathlib.Core.Bool.{true, false, _&&_}
-use mathlib.Core.List.{List, [], _∷_, _++_}
-use mathlib.Mathlib.Data.Bool.Basic.{and-elim-left, and-elim-right}
+use mathlib.Core.List.{List, _++_}
 use Prim.Native.Nat.{ℕ, zero, suc, _+_, _-_, _≤_, _<_}
-use native.Mathlib.Nat.{not-suc-le-zero, le-of-suc-le-suc}
 use native.Mathlib.Numerals.{add-one}
 use native.Mathlib.Omega.{arith}
-use borrow.Author.Tests.{eq-eqb, ne-eqb, eqb-true}
+use borrow.Author.Tests.{eq-eqb, ne-eqb}
 use lib.Dec.{eqb}
-use lib.ListN.{length, take, drop, replicate, drop-of-length-le}
-use lib.ListN.{length-append, length-take, length-drop, length-replicate, take-append-drop, replicate-append-replicate}
-use lib.Seq.{drop-cons, drop-drop, getD-take, getD-drop, length-take-le, take-append-le, drop-append-le, take-at, drop-at}
+use lib.ListN.{length, take, drop, replicate, drop-of-length-le, length-append, length-take, length-drop, length-replicate, take-append-drop, replicate-append-replicate}
+use lib.Seq.{drop-cons, drop-drop, length-take-le, take-append-le, drop-append-le, take-at, drop-at}
 use Rattle.rules.specs.Bytes.{all255, byte, part, replaced}
 
 -- ---- all255
@@ -20,12 +17,6 @@ pub all255-replicate : (n : ℕ) → all255 (replicate n 255) ≡ true
 unfolding all255
 all255-replicate zero = refl
 all255-replicate (suc n) = all255-replicate n
-
-pub all255-at : (xs : List ℕ) (i : ℕ) → all255 xs ≡ true → i < length xs → byte xs i ≡ 255
-unfolding all255
-all255-at [] i all h = absurd (not-suc-le-zero h)
-all255-at (x ∷ xs) zero all h = eqb-true x 255 (and-elim-left (eqb x 255) (all255 xs) all)
-all255-at (x ∷ xs) (suc i) all h = all255-at xs i (and-elim-right (eqb x 255) (all255 xs) all) (le-of-suc-le-suc h)
 
 -- from place i on, as a loop goes
 from : (xs : List ℕ) (i : ℕ) → i < length xs → all255 (drop i xs) ≡ (eqb (byte xs i) 255 && all255 (drop (i + 1) xs))
@@ -46,9 +37,6 @@ all255-end xs i h = rw (drop-of-length-le xs h)
 
 pub part-length : (xs : List ℕ) (at n : ℕ) → at + n ≤ length xs → length (part xs at n) ≡ n
 part-length xs at n h = simp (length-take, length-drop) (omega arith)
-
-pub byte-part : (xs : List ℕ) (at n i : ℕ) → i < n → byte (part xs at n) i ≡ byte xs (at + i)
-byte-part xs at n i h = getD-take n (drop at xs) i 0 h ∙ getD-drop at xs i 0
 
 pub part-append : (xs ys : List ℕ) (at n : ℕ) → at + n ≤ length xs → part (xs ++ ys) at n ≡ part xs at n
 part-append xs ys at n h =

@@ -1,4 +1,4 @@
--- The roles of used blocks after the record of one block has changed. Assumes nothing.
+-- The roles of used blocks after the record of one block has changed.
 use mathlib.Core.Path.{_≡_, refl, sym, ap, _∙_, subst}
 use mathlib.Core.Logic.{_≢_, _⊎_, inl, inr}
 use mathlib.Core.Bool.{Bool, not, _&&_, cond}
@@ -117,16 +117,9 @@ module _ (s : Shape) (c : Blocks) (b : ℕ) (x : Block) where
       → (IsLive s (dataNumber s (changed c b x) (x .logical)) x → T (isLive s c b) × (x .logical ≡ c b .logical)) → LiveWas s c (changed c b x)
   liveWas m f j t =
       changed-elim c b x (λ j z. IsLive s (dataNumber s c′ (z .logical)) z → T (isLive s c j) × (z .logical ≡ c j .logical)) f
-      (λ j n v. (
-        live-i s c j (record {
-          used = v .used;
-          log = v .log;
-          incomplete = v .incomplete;
-          above =
-              omega (arith, v .above, m (c j .logical));
-        }),
-        refl,
-      ))
+      (λ j n v.
+      let above : dataNumber s c (c j .logical) < c j .number = omega (arith, v .above, m (c j .logical)) in
+      (live-i s c j (record { used = v .used; log = v .log; incomplete = v .incomplete; above = above }), refl))
       j (live-e s c′ j t)
 
   pub liveLogs-was : LiveWas s c (changed c b x) → liveLogs s (changed c b x) ≤ liveLogs s c
@@ -339,7 +332,7 @@ module _ (s : Shape) (c : Blocks) (b : ℕ) (x : Block) (w : WellFormed s c) (p 
 
 -- ---- a page more in the live log block of l, which stays incomplete; or the first of a new one
 
-pub record Written (s : Shape) (c : Blocks) (b : ℕ) (x : Block) : Type 0 where
+pub record LogGrown (s : Shape) (c : Blocks) (b : ℕ) (x : Block) : Type 0 where
   pub wf : WellFormed s (changed c b x)
   pub numbers : (l : ℕ) → dataNumber s (changed c b x) l ≡ dataNumber s c l
   pub isLive : T (isLive s (changed c b x) b)
@@ -361,8 +354,8 @@ module _ (s : Shape) (c : Blocks) (b : ℕ) (x : Block) (w : WellFormed s c) (p 
   log-live : T (isLive s (changed c b x) b)
   log-live = live-i s k′ b (subst (λ (z : Block). IsLive s (dataNumber s k′ (z .logical)) z) (sym (changed-same c b x)) log-is)
 
-  log-written : WellFormed s (changed c b x) → Written s c b x
-  log-written wf =
+  log-grown : WellFormed s (changed c b x) → LogGrown s c b x
+  log-grown wf =
       record {
         wf = wf;
         numbers = log-numbers;
@@ -379,14 +372,14 @@ module _ (s : Shape) (c : Blocks) (b : ℕ) (x : Block) (w : WellFormed s c) (p 
       }
 
   -- one page more
-  pub append : T (isLive s c b) → c b .logical ≡ x .logical → Written s c b x
+  pub append : T (isLive s c b) → c b .logical ≡ x .logical → LogGrown s c b x
   append v e =
-      log-written (wellFormed-kept s c b x w p (liveWas s c b x (λ l. omega (arith, log-numbers l)) (λ y. (v, sym e))))
+      log-grown (wellFormed-kept s c b x w p (liveWas s c b x (λ l. omega (arith, log-numbers l)) (λ y. (v, sym e))))
 
   -- a new log block
-  pub begin : NoLive s c (x .logical) → liveLogs s c < s .logs → Written s c b x
+  pub begin : NoLive s c (x .logical) → liveLogs s c < s .logs → LogGrown s c b x
   unfolding liveLogs
-  begin none room = log-written (wellFormed-with s c b x w p one few)
+  begin none room = log-grown (wellFormed-with s c b x w p one few)
     where
       same : (j : ℕ) → j ≢ b → T (isLive s k′ j) → T (isLive s c j)
       same j n t = subst T (live-other s c b x j n (log-numbers (c j .logical))) t

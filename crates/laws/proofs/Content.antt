@@ -1,4 +1,4 @@
--- The content of a logical page, where pages stay, where a log block gets one more, and where it is all in the data block. Assumes nothing.
+-- The content of a logical page, where pages stay, where a log block gets one more, and where it is all in the data block.
 use mathlib.Core.Path.{_≡_, refl, sym, ap, _∙_}
 use mathlib.Core.Logic.{_≢_, _⊎_, inl, inr}
 use mathlib.Core.Bool.{cond}
@@ -7,6 +7,7 @@ use Prim.Native.Nat.{ℕ, zero, suc, _<_}
 use native.Mathlib.Omega.{arith}
 use lib.ListN.{length, replicate, length-replicate}
 use lib.Dec.{T-not, eqb}
+use borrow.Author.Tests.{eq-eqb, ne-eqb}
 use Rattle.rules.specs.declared.shape.Shape.{Shape}
 use Rattle.rules.specs.declared.place.Place.{Place}
 use Rattle.rules.specs.declared.place.Place.the-variants.{At, Nowhere}
@@ -56,8 +57,7 @@ newest-same : (s : Shape) (im im′ : Image) (b o n : ℕ) → SamePages s im im
 unfolding newest
 newest-same s im im′ b o zero h = refl
 newest-same s im im′ b o (suc n) h =
-    ap (λ (t : List ℕ). cond (eqb (offsetOf s (addressIn t)) o) (At (pageNo s b n)) (newest s im′ b o n)) (h n (omega arith) .1)
-    ∙ ap (λ (p : Place). cond (eqb (offsetAt s im b n) o) (At (pageNo s b n)) p) (newest-same s im im′ b o n (λ i k. h i (omega arith)))
+    rw (h n (omega arith) .1, newest-same s im im′ b o n (λ i k. h i (omega arith))) refl
 
 newest-next : (s : Shape) (im : Image) (b o n : ℕ)
     → newest s im b o (suc n) ≡ cond (eqb (offsetAt s im b n) o) (At (pageNo s b n)) (newest s im b o n)
@@ -70,13 +70,10 @@ unfolding newest
 newest-ordered s im b o zero f h = absurd (omega arith)
 newest-ordered s im b o (suc n) f h =
     elim (dec-eq n o) [
-      | inl e ↦
-          cond-yes (eqb (offsetAt s im b n) o) (At (pageNo s b n)) (newest s im b o n) (eq→eqb (offsetAt s im b n) o (f n (omega arith) ∙ e))
-          ∙ ap (λ (i : ℕ). At (pageNo s b i)) e
+      | inl e ↦ rw (eq-eqb (offsetAt s im b n) o (f n (omega arith) ∙ e), e) refl
       | inr e ↦
-          cond-no (eqb (offsetAt s im b n) o) (At (pageNo s b n)) (newest s im b o n)
-          (ne→eqb (offsetAt s im b n) o (λ q. e (sym (f n (omega arith)) ∙ q)))
-          ∙ newest-ordered s im b o n (λ i k. f i (omega arith)) (omega arith)
+          rw (ne-eqb (offsetAt s im b n) o (λ q. e (sym (f n (omega arith)) ∙ q)))
+          (newest-ordered s im b o n (λ i k. f i (omega arith)) (omega arith))
     ]
 
 -- ---- the data block's page
@@ -137,24 +134,16 @@ module _ (s : Shape) (a : ℕ) (low : offsetOf s a < s .pages) where
       → dataBlock s c′ l ≡ dataBlock s c l → (dataBlock s c l ≢ none → SamePages s im im′ (dataBlock s c l) (s .pages))
       → content s im′ c′ a ≡ content s im c a
   content-same im im′ c c′ b n e e′ f f′ same d sameD =
-      content-from im′ c′ ∙ ap (λ (v : ℕ). from im′ c′ v (c′ v .filled)) e′ ∙ ap (λ (m : ℕ). from im′ c′ b m) f′
-      ∙ from-same im im′ c c′ b n same d sameD
-      ∙ sym (content-from im c ∙ ap (λ (v : ℕ). from im c v (c v .filled)) e ∙ ap (λ (m : ℕ). from im c b m) f)
+      content-from im′ c′ ∙ rw (e′, f′) (from-same im im′ c c′ b n same d sameD ∙ sym (content-from im c ∙ rw (e, f) refl))
 
   -- with no live log block: the data block's page
   pub content-data : (im : Image) (c : Blocks) → c (liveLog s c l) .filled ≡ 0 → dataBlock s c l ≢ none
       → content s im c a ≡ pageBytes im (pageNo s (dataBlock s c l) (offsetOf s a))
-  content-data im c z n =
-      content-from im c ∙ ap (λ (m : ℕ). from im c (liveLog s c l) m) z
-      ∙ ap (λ (p : Place). bytesAt im (orElse p (inData s c a))) (newest-zero s im (liveLog s c l) o)
-      ∙ ap (bytesAt im) (inData-some s c a n)
+  content-data im c z n = content-from im c ∙ rw (z, newest-zero s im (liveLog s c l) o, inData-some s c a n) refl
 
   -- with neither: 512 of 255
   pub content-blank : (im : Image) (c : Blocks) → c (liveLog s c l) .filled ≡ 0 → dataBlock s c l ≡ none → content s im c a ≡ replicate 512 255
-  content-blank im c z n =
-      content-from im c ∙ ap (λ (m : ℕ). from im c (liveLog s c l) m) z
-      ∙ ap (λ (p : Place). bytesAt im (orElse p (inData s c a))) (newest-zero s im (liveLog s c l) o)
-      ∙ ap (bytesAt im) (inData-none s c a n)
+  content-blank im c z n = content-from im c ∙ rw (z, newest-zero s im (liveLog s c l) o, inData-none s c a n) refl
 
   -- ---- a page more in the log block
 
@@ -163,27 +152,21 @@ module _ (s : Shape) (a : ℕ) (low : offsetOf s a < s .pages) where
     -- the content before, with b for the log block
     content-old : content s im c a ≡ from im c b n
     content-old =
-        content-from im c ∙ ap (λ (m : ℕ). from im c (liveLog s c l) m) (before .0)
-        ∙ elim (before .1) [
-          | inl e ↦ ap (λ (v : ℕ). from im c v n) e
-          | inr z ↦
-              ap (λ (p : Place). bytesAt im (orElse p (inData s c a)))
-              (ap (λ (m : ℕ). newest s im (liveLog s c l) o m) z ∙ newest-zero s im (liveLog s c l) o
-              ∙ sym (ap (λ (m : ℕ). newest s im b o m) z ∙ newest-zero s im b o))
-        ]
+        content-from im c ∙ rw (before .0) (elim (before .1) [
+          | inl e ↦ rw e refl
+          | inr z ↦ rw (z, newest-zero s im (liveLog s c l) o, newest-zero s im b o) refl
+        ])
 
     -- it stays the live log block
     pub content-append : liveLog s c′ l ≡ b → c′ b .filled ≡ suc n → dataBlock s c′ l ≡ dataBlock s c l
         → (dataBlock s c l ≢ none → SamePages s im im′ (dataBlock s c l) (s .pages))
         → content s im′ c′ a ≡ cond (eqb (offsetAt s im′ b n) (offsetOf s a)) (pageBytes im′ (pageNo s b n)) (content s im c a)
     content-append e f d sameD =
-        content-from im′ c′ ∙ ap (λ (v : ℕ). from im′ c′ v (c′ v .filled)) e ∙ ap (λ (m : ℕ). from im′ c′ b m) f
-        ∙ ap (λ (p : Place). bytesAt im′ (orElse p (inData s c′ a))) (newest-next s im′ b o n)
-        ∙ elim (tcase (eqb (offsetAt s im′ b n) o)) [
+        content-from im′ c′ ∙ rw (e, f, newest-next s im′ b o n) (elim (tcase (eqb (offsetAt s im′ b n) o)) [
           | inl t ↦ rw (is-true (eqb (offsetAt s im′ b n) o) t) refl
           | inr t ↦ rw (is-false (eqb (offsetAt s im′ b n) o) (T-not (eqb (offsetAt s im′ b n) o) t))
               (from-same im im′ c c′ b n same d sameD ∙ sym content-old)
-        ]
+        ])
 
     -- it is complete, and the data block from now on
     pub content-fill : c′ (liveLog s c′ l) .filled ≡ 0 → dataBlock s c′ l ≡ b → b ≢ none → suc n ≡ s .pages
@@ -192,10 +175,9 @@ module _ (s : Shape) (a : ℕ) (low : offsetOf s a < s .pages) where
     content-fill z e nn full order =
         content-data im′ c′ z (λ q. nn (sym e ∙ q)) ∙ ap (λ (d : ℕ). pageBytes im′ (pageNo s d o)) e
         ∙ elim (dec-eq n o) [
-          | inl q ↦ rw (is-true (eqb (offsetAt s im′ b n) o) (eq→eqb (offsetAt s im′ b n) o (order n (omega arith) ∙ q)))
-              (ap (λ (i : ℕ). pageBytes im′ (pageNo s b i)) (sym q))
+          | inl q ↦ rw (eq-eqb (offsetAt s im′ b n) o (order n (omega arith) ∙ q)) (ap (λ (i : ℕ). pageBytes im′ (pageNo s b i)) (sym q))
           | inr q ↦
-              rw (is-false (eqb (offsetAt s im′ b n) o) (ne→eqb (offsetAt s im′ b n) o (λ y. q (sym (order n (omega arith)) ∙ y))))
+              rw (ne-eqb (offsetAt s im′ b n) o (λ y. q (sym (order n (omega arith)) ∙ y)))
               (same o (omega arith) .0 ∙ sym (content-old
               ∙ ap (λ (p : Place). bytesAt im (orElse p (inData s c a))) (newest-ordered s im b o n old (omega arith))))
         ]

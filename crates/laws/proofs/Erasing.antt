@@ -1,4 +1,4 @@
--- Erasing obsolete blocks, any of them in any order, cut anywhere: contents, W1 to W7, data blocks and live log blocks stay. Assumes nothing.
+-- Erasing obsolete blocks, any of them in any order, cut anywhere: contents, W1 to W7, data blocks and live log blocks stay.
 use mathlib.Core.Path.{_≡_, refl, sym, ap, _∙_, subst}
 use mathlib.Core.Logic.{_≢_, inl, inr}
 use mathlib.Core.List.{List, [], _∷_, map}
@@ -18,7 +18,7 @@ use Rattle.rules.specs.Replies.{goodBlocks}
 use Rattle.rules.specs.Facts.{Fits}
 use Rattle.laws.proofs.Below.{All, Distinct, all-two, bit-one, bit-zero, countBelow-most, countBelow-move}
 use Rattle.laws.proofs.Shape.{offsetOf-below}
-use Rattle.laws.proofs.Roles.{used-good, Records, used-below, below-none, complete-e, IsData, IsLive, obsolete-e, WellFormed, dataBlock-found, liveLog-found, highest-ge, highest-le}
+use Rattle.laws.proofs.Roles.{used-good, Records, used-below, below-none, complete-e, IsData, IsLive, obsolete-e, WellFormed, Has, has-some, dataBlock-found, liveLog-found, highest-ge, highest-le}
 use Rattle.laws.proofs.Change.{changed, changed-same, changed-other, changed-elim, Fitting, liveLog-kept, dataBlock-kept, goodBlocks-kept, obsolete-other, Idle, LiveIs, Quiet, quiet}
 use Rattle.laws.proofs.Content.{SamePages, content-same}
 use Rattle.laws.proofs.Along.{Along}
@@ -63,16 +63,12 @@ module _ (s : Shape) (im im′ : Image) (fits : Fits s im) (c : Blocks) (r : Rec
       nv : v ≢ b
       nv q =
           elim (liveLog-found s c r l) [
-            | inl y ↦ nl (subst (λ (j : ℕ). T (isLive s c j)) q (y .passes)) (subst (λ (j : ℕ). c j .logical ≡ l) q (y .logical))
+            | inl y ↦ let z = subst (Has (isLive s c) c l) q y in nl (z .passes) (z .logical)
             | inr y ↦ below-none s c r below (sym q ∙ y .is)
           ]
 
       nb : dataBlock s c l ≢ none → dataBlock s c l ≢ b
-      nb n q =
-          elim (dataBlock-found s c r l) [
-            | inl y ↦ nd (subst (λ (j : ℕ). T (isData s c j)) q (y .passes)) (subst (λ (j : ℕ). c j .logical ≡ l) q (y .logical))
-            | inr y ↦ n (y .is)
-          ]
+      nb n q = let z = subst (Has (isData s c) c l) q (has-some (dataBlock-found s c r l) n) in nd (z .passes) (z .logical)
 
   -- every content, where b was neither data block nor live, and x is neither
   pub contents-kept : ((l : ℕ) → dataNumber s (changed c b x) l ≡ dataNumber s c l) → (T (isData s c b) → ⊥) → (T (isLive s c b) → ⊥) → Idle s x

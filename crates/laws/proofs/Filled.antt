@@ -1,4 +1,4 @@
--- The pages of a block of which the first m are programmed: they give its record, and its record gives them. Assumes nothing.
+-- The pages of a block of which the first m are programmed: they give its record, and its record gives them.
 use mathlib.Core.Path.{_≡_, refl, sym, ap, _∙_, subst}
 use mathlib.Core.Logic.{_≢_, inl, inr}
 use mathlib.Core.Bool.{Bool, not, _&&_, _||_, or-assoc}
@@ -16,11 +16,11 @@ use Rattle.rules.specs.Below.{allBelow}
 use Rattle.rules.specs.Spare.{copyKind}
 use Rattle.rules.specs.Shape.{blockOf, offsetOf, inRange}
 use Rattle.rules.specs.Page.{isErased, isEntry, numberOf, kindOf, addressOf}
-use Rattle.rules.specs.WellFormed.{Pages, W1, W2, W3, W4, W1to4, notUsed, allErased, filledIn, inOrder, goodBlock, isUsed, isFree}
+use Rattle.rules.specs.WellFormed.{naming, Pages, W1, W2, W3, W4, W1to4, notUsed, allErased, filledIn, inOrder, goodBlock, isUsed, isFree}
 use Rattle.laws.proofs.Tests.{tcase, and-l, and-r, and-i, or-l, or-r, or-e, cond-yes, cond-no, dec-eq, dec-lt, eq→eqb, chain-each, each-chain}
 use Rattle.laws.proofs.Below.{allBelow-at, allBelow-all, allBelow-same, countBelow-most, Before, countBelow-first, countBelow-prefix}
 use Rattle.laws.proofs.Pages.{isErased-is, isEntry-is}
-use Rattle.laws.proofs.Records.{Seen, seen-free, seen-ill, seen-used, goodBlock-seen, rules-e, W1-before, first-programmed}
+use Rattle.laws.proofs.Records.{goodBlock-cases, rules-e, W1-before, first-programmed}
 
 -- pages 0 to m - 1 have number n, kind k and addresses in logical block l, as W1 to W4 say; the others are erased
 pub record Filled (s : Shape) (g : Pages) (n k l m : ℕ) : Type 0 where
@@ -77,8 +77,8 @@ module _ (s : Shape) (g : Pages) where
     unfolding W2
     filled-W2 =
         allBelow-all (s .pages) (W2 s g)
-        (rule-i (λ i. isEntry (g i) && eqb (kindOf (g i)) (kindOf (g 0)) && eqb (numberOf (g i)) (numberOf (g 0)))
-        (λ i h. each-chain (isEntry (g i)) (eqb (kindOf (g i)) (kindOf (g 0)) ∷ eqb (numberOf (g i)) (numberOf (g 0)) ∷ [])
+        (rule-i (λ i. isEntry (g i) && eqb (kindOf (g i)) (kindOf (naming g)) && eqb (numberOf (g i)) (numberOf (naming g)))
+        (λ i h. each-chain (isEntry (g i)) (eqb (kindOf (g i)) (kindOf (naming g)) ∷ eqb (numberOf (g i)) (numberOf (naming g)) ∷ [])
         (subst (λ (q : Page). T (isEntry q)) (sym (f .entry i h)) tt)
         (eq→eqb _ _ (same-kind i h ∙ sym (same-kind 0 (omega arith))), (eq→eqb _ _ (same-number i h ∙ sym (same-number 0 (omega arith))), tt))))
 
@@ -86,8 +86,8 @@ module _ (s : Shape) (g : Pages) where
     unfolding W3
     filled-W3 =
         allBelow-all (s .pages) (W3 s g)
-        (rule-i (λ i. inRange s (addressOf (g i)) && eqb (blockOf s (addressOf (g i))) (blockOf s (addressOf (g 0))))
-        (λ i h. and-i (inRange s (addressOf (g i))) (eqb (blockOf s (addressOf (g i))) (blockOf s (addressOf (g 0)))) (f .in-range i h)
+        (rule-i (λ i. inRange s (addressOf (g i)) && eqb (blockOf s (addressOf (g i))) (blockOf s (addressOf (naming g))))
+        (λ i h. and-i (inRange s (addressOf (g i))) (eqb (blockOf s (addressOf (g i))) (blockOf s (addressOf (naming g)))) (f .in-range i h)
         (eq→eqb _ _ (f .block i h ∙ sym (f .block 0 (omega arith))))))
 
     filled-W4 : T (all W4)
@@ -97,15 +97,15 @@ module _ (s : Shape) (g : Pages) where
         (λ i h. subst T (sym (or-assoc (isErased (g i)) no-copy (in-place i))) (rule-i (λ j. no-copy || in-place j) pass i h))
       where
         no-copy : Bool
-        no-copy = not (eqb (kindOf (g 0)) copyKind)
+        no-copy = not (eqb (kindOf (naming g)) copyKind)
 
         in-place : ℕ → Bool
         in-place i = eqb (offsetOf s (addressOf (g i))) i
 
         pass : (i : ℕ) → i < m → T (no-copy || in-place i)
         pass i h =
-            elim (tcase (eqb (kindOf (g 0)) copyKind)) [
-              | inl t ↦ or-r no-copy (in-place i) (eq→eqb _ _ (f .offset (sym (same-kind 0 (omega arith)) ∙ eqb→eq (kindOf (g 0)) copyKind t) i h))
+            elim (tcase (eqb (kindOf (naming g)) copyKind)) [
+              | inl t ↦ or-r no-copy (in-place i) (eq→eqb _ _ (f .offset (sym (same-kind 0 (omega arith)) ∙ eqb→eq (kindOf (naming g)) copyKind t) i h))
               | inr t ↦ or-l no-copy (in-place i) t
             ]
 
@@ -117,9 +117,9 @@ module _ (s : Shape) (g : Pages) where
     pub filled-goodBlock : 0 < m → goodBlock s g ≡ usedWith n k l m (inOrder s g m)
     unfolding goodBlock W1to4
     filled-goodBlock h =
-        let kind : kindOf (g 0) ≡ k = same-kind 0 h in
-        let number : numberOf (g 0) ≡ n = same-number 0 h in
-        let block : blockOf s (addressOf (g 0)) ≡ l = f .block 0 h in
+        let kind : kindOf (naming g) ≡ k = same-kind 0 h in
+        let number : numberOf (naming g) ≡ n = same-number 0 h in
+        let block : blockOf s (addressOf (naming g)) ≡ l = f .block 0 h in
         let count : filledIn s g ≡ m = filled-count in
         let order : inOrder s g (filledIn s g) ≡ inOrder s g m = ap (inOrder s g) count in
         cond-no (allErased s g) _ _ (λ t. programmed 0 h (allBelow-at (s .pages) (λ i. isErased (g i)) t 0 (omega arith)))
@@ -136,12 +136,10 @@ pub record UsedPages (s : Shape) (g : Pages) (x : Block) : Type 0 where
 
 module _ (s : Shape) (g : Pages) where
   pub goodBlock-free : T (isFree (goodBlock s g .state)) → (i : ℕ) → i < s .pages → g i ≡ Erased
-  goodBlock-free t i h = isErased-is (g i) (allBelow-at (s .pages) (λ j. isErased (g j)) (seen (goodBlock-seen s g) t) i h)
+  goodBlock-free t i h = isErased-is (g i) (allBelow-at (s .pages) (λ j. isErased (g j)) (all-erased t) i h)
     where
-      seen : {x : Block} → Seen s g x → T (isFree (x .state)) → T (allErased s g)
-      seen (seen-free a) t = a
-      seen seen-ill t = absurd t
-      seen (seen-used f a) t = absurd t
+      all-erased : T (isFree (goodBlock s g .state)) → T (allErased s g)
+      all-erased = goodBlock-cases s g (λ x. T (isFree (x .state)) → T (allErased s g)) (λ a u. a) (λ u. absurd u) (λ f a u. absurd u)
 
   module _ (f : T (allErased s g) → ⊥) (rules : T (W1to4 s g)) where
     first : Before (λ i. not (isErased (g i))) (s .pages)
@@ -159,40 +157,40 @@ module _ (s : Shape) (g : Pages) where
         let h′ : i < s .pages = omega (arith, most) in
         elim (or-e (isErased (g i)) rest t) [ inl e ↦ absurd (T-not (isErased (g i)) (below-count i h′ .0 h) e) | inr r ↦ r ]
 
-    W2-at : (i : ℕ) → i < filledIn s g → T (isEntry (g i)) × (kindOf (g i) ≡ kindOf (g 0)) × (numberOf (g i) ≡ numberOf (g 0))
+    W2-at : (i : ℕ) → i < filledIn s g → T (isEntry (g i)) × (kindOf (g i) ≡ kindOf (naming g)) × (numberOf (g i) ≡ numberOf (naming g))
     unfolding W2
     W2-at i h =
-        let same-kind : Bool = eqb (kindOf (g i)) (kindOf (g 0)) in
-        let same-number : Bool = eqb (numberOf (g i)) (numberOf (g 0)) in
+        let same-kind : Bool = eqb (kindOf (g i)) (kindOf (naming g)) in
+        let same-number : Bool = eqb (numberOf (g i)) (numberOf (naming g)) in
         let t = allBelow-at (s .pages) (W2 s g) (rules-e s g rules .1) i (omega (arith, most)) in
         let a = rule-e (isEntry (g i) && same-kind && same-number) i h t in
         let e = chain-each (isEntry (g i)) (same-kind ∷ same-number ∷ []) a in
         (e .0, eqb→eq _ _ (e .1 .0), eqb→eq _ _ (e .1 .1 .0))
 
-    W3-at : (i : ℕ) → i < filledIn s g → T (inRange s (addressOf (g i))) × (blockOf s (addressOf (g i)) ≡ blockOf s (addressOf (g 0)))
+    W3-at : (i : ℕ) → i < filledIn s g → T (inRange s (addressOf (g i))) × (blockOf s (addressOf (g i)) ≡ blockOf s (addressOf (naming g)))
     unfolding W3
     W3-at i h =
         let range : Bool = inRange s (addressOf (g i)) in
-        let same-block : Bool = eqb (blockOf s (addressOf (g i))) (blockOf s (addressOf (g 0))) in
+        let same-block : Bool = eqb (blockOf s (addressOf (g i))) (blockOf s (addressOf (naming g))) in
         let t = allBelow-at (s .pages) (W3 s g) (rules-e s g rules .2) i (omega (arith, most)) in
         let a = rule-e (range && same-block) i h t in
         (and-l range same-block a, eqb→eq _ _ (and-r range same-block a))
 
-    W4-at : kindOf (g 0) ≡ copyKind → (i : ℕ) → i < filledIn s g → offsetOf s (addressOf (g i)) ≡ i
+    W4-at : kindOf (naming g) ≡ copyKind → (i : ℕ) → i < filledIn s g → offsetOf s (addressOf (g i)) ≡ i
     unfolding W4
     W4-at copy i h =
-        let no-copy : Bool = not (eqb (kindOf (g 0)) copyKind) in
+        let no-copy : Bool = not (eqb (kindOf (naming g)) copyKind) in
         let in-place : Bool = eqb (offsetOf s (addressOf (g i))) i in
         let t = allBelow-at (s .pages) (W4 s g) (rules-e s g rules .3) i (omega (arith, most)) in
         let a = rule-e (no-copy || in-place) i h (subst T (or-assoc (isErased (g i)) no-copy in-place) t) in
-        elim (or-e no-copy in-place a) [ inl u ↦ absurd (T-not (eqb (kindOf (g 0)) copyKind) u (eq→eqb _ _ copy)) | inr u ↦ eqb→eq _ _ u ]
+        elim (or-e no-copy in-place a) [ inl u ↦ absurd (T-not (eqb (kindOf (naming g)) copyKind) u (eq→eqb _ _ copy)) | inr u ↦ eqb→eq _ _ u ]
 
-    used-filled : Filled s g (numberOf (g 0)) (kindOf (g 0)) (blockOf s (addressOf (g 0))) (filledIn s g)
+    used-filled : Filled s g (numberOf (naming g)) (kindOf (naming g)) (blockOf s (addressOf (naming g))) (filledIn s g)
     used-filled =
         record {
           most = most;
           entry = λ i h. let e = W2-at i h in isEntry-is (g i) (e .0) ∙ ap (λ (k : ℕ). Entry (numberOf (g i)) k (addressOf (g i))) (e .1)
-              ∙ ap (λ (n : ℕ). Entry n (kindOf (g 0)) (addressOf (g i))) (e .2);
+              ∙ ap (λ (n : ℕ). Entry n (kindOf (naming g)) (addressOf (g i))) (e .2);
           in-range = λ i h. W3-at i h .0;
           block = λ i h. W3-at i h .1;
           offset = W4-at;
@@ -200,15 +198,12 @@ module _ (s : Shape) (g : Pages) where
         }
 
     used-some : 0 < s .pages → 0 < filledIn s g
-    used-some p = below-count 0 p .1 (not-T (isErased (g 0)) (first-programmed s g f rules))
+    used-some p = below-count 0 p .1 (not-T (isErased (naming g)) (first-programmed s g f rules))
 
   pub goodBlock-used : 0 < s .pages → T (isUsed (goodBlock s g .state)) → UsedPages s g (goodBlock s g)
-  goodBlock-used p t = seen (goodBlock-seen s g) t
-    where
-      seen : {x : Block} → Seen s g x → T (isUsed (x .state)) → UsedPages s g x
-      seen (seen-free a) t = absurd t
-      seen seen-ill t = absurd t
-      seen (seen-used f a) t = record { some = used-some f a p; filled = used-filled f a; ordered = refl }
+  goodBlock-used p =
+      goodBlock-cases s g (λ x. T (isUsed (x .state)) → UsedPages s g x) (λ a u. absurd u) (λ u. absurd u)
+      (λ f a u. record { some = used-some f a p; filled = used-filled f a; ordered = refl })
 
 -- ---- one more page
 

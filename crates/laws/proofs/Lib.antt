@@ -1,7 +1,8 @@
--- Laws of the definitions of crates/rules: of tests, numbers and bytes; of pages; of records; of roles; of steps; of a merge.
+-- Laws of the definitions of crates/rules: of tests, refusals, numbers and bytes; of pages; of records; of roles; of steps; of a logical block made anew, and a merge.
 pub mod Tests
 pub mod Below
 pub mod Bytes
+pub mod First
 pub mod Shape
 pub mod Spare
 pub mod Pages
@@ -15,7 +16,9 @@ pub mod Along
 pub mod Steps
 pub mod Erasing
 pub mod Copy
+pub mod Renewal
 pub mod Merge
 pub mod Merged
 pub mod Completed
+pub mod Cases
 pub mod Arrays

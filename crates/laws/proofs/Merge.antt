@@ -1,87 +1,36 @@
--- The merge of a logical block: every cut of it, and its end. Assumes nothing.
-use mathlib.Core.Path.{_≡_, refl, sym, ap, _∙_, subst}
-use mathlib.Core.Logic.{_≢_, _⊎_, inl, inr}
-use mathlib.Core.Bool.{true}
-use mathlib.Core.List.{List, _++_, map}
-use Prim.Native.Nat.{ℕ, zero, suc, _+_, _*_, _≤_, _<_}
+-- The merge of a logical block: every cut of it, and its end. It is made anew with its own content, so that every page holds what it held.
+use mathlib.Core.Path.{_≡_, refl, sym, ap, _∙_}
+use mathlib.Core.Logic.{_≢_, inl, inr}
+use Prim.Native.Nat.{ℕ, _+_, _*_, _≤_, _<_}
 use native.Mathlib.Omega.{arith}
-use native.Mathlib.Nat.{le-refl}
 use lib.ListN.{length}
-use lib.Dec.{T}
+use borrow.Author.Tests.{eq-eqb, ne-eqb}
 use Rattle.rules.specs.declared.shape.Shape.{Shape}
-use Rattle.rules.specs.declared.block.Block.{Block}
-use Rattle.rules.specs.Below.{none, ifAny, countBelow, listBelow}
-use Rattle.rules.specs.Spare.{numberLimit, logKind, copyKind}
+use Rattle.rules.specs.Below.{none}
+use Rattle.rules.specs.Spare.{numberLimit}
 use Rattle.rules.specs.Shape.{pageNo, blockOf, offsetOf, logicalPage}
 use Rattle.rules.specs.Page.{Image, pageBytes}
-use Rattle.rules.specs.WellFormed.{Blocks, isFree, isUsed, isComplete, isData, isLive, isObsolete, dataBlock, liveLog, blocksOf}
+use Rattle.rules.specs.WellFormed.{Blocks, dataBlock, liveLog, blocksOf}
 use Rattle.rules.specs.Content.{content}
-use Rattle.rules.specs.Steps.{Step, erase, stepsDone, erases, programs, taken, highest, newNumber, copies, mergeList}
-use Rattle.laws.proofs.Tests.{dec-eq, dec-lt}
-use Rattle.laws.proofs.Below.{All, all-append, all-left, all-right, distinct-append, found-all, found-distinct, found-out, countBelow-one, countBelow-two}
+use Rattle.rules.specs.Steps.{stepsDone, erases, programs, taken, newNumber, contents, mergeList}
+use Rattle.laws.proofs.Tests.{dec-eq}
 use Rattle.laws.proofs.Bytes.{part-length}
 use Rattle.laws.proofs.Shape.{pageNo-below, logicalPage-of, offsetOf-below}
-use Rattle.laws.proofs.Pages.{stepsDone-append}
-use Rattle.laws.proofs.Filled.{usedWith}
-use Rattle.laws.proofs.Blocks.{copyStep}
-use Rattle.laws.proofs.Roles.{free-good, free-not-used, used-below, below-none, good-below, none-filled, complete-i, complete-e, obsolete-e, data-used, live-used, data-not-live, dataNumber-below, WellFormed, dataBlock-found, liveLog-found, dataBlock-is, liveLog-none, Recovered, highest-ge, highest-le, taken-free}
-use Rattle.laws.proofs.Change.{changed, changed-same, changed-other, changed-elim, Fitting, NoLive, LiveIs, goodBlocks-kept, obsolete-other, below-obsolete, Idle, Quiet, quiet, Completed, complete, complete-obsolete}
-use Rattle.laws.proofs.Content.{content-data, content-length}
-use Rattle.laws.proofs.Along.{Along, erases-append, programs-append, programs-erases, along-append, along-end, along-map}
-use Rattle.laws.proofs.Copy.{first, copied, copyRecord, copyRecord-filled, copyRecord-some, copies-erases, copies-programs, Copies, copies-is, copies-along}
-use Rattle.laws.proofs.Erasing.{Sound, logical-few, contentOf, content-kept, contents-kept, obsoletes, Erasing, erasing-start, liveIs-trans, erasing}
+use Rattle.laws.proofs.Roles.{used-below, none-filled, data-used, live-used, has-some, dataBlock-found, liveLog-found, Recovered}
+use Rattle.laws.proofs.Content.{content-length}
+use Rattle.laws.proofs.Along.{Along}
+use Rattle.laws.proofs.Copy.{Copies}
+use Rattle.laws.proofs.Erasing.{Sound, contentOf}
+use Rattle.laws.proofs.Renewal.{renewed, Before, After, renewal-made, renewal-along, renewal-end, renewal-programs}
 
--- ---- the merge of l
-
--- im′ is im with e erases and a copy in a block of its own, whole or not
-pub record Merging (s : Shape) (im : Image) (e : ℕ) (im′ : Image) : Type 0 where
-  pub sound : Sound s im′
-  pub same : (a : ℕ) → contentOf s im′ a ≡ contentOf s im a
-  pub live : LiveIs s (blocksOf s im) (blocksOf s im′)
-  pub highest : highest s (blocksOf s im′) ≤ highest s (blocksOf s im) + 1
-  pub total : e + obsoletes s im′ ≤ 2
-
--- while pages are copied, at most one block is obsolete
-abbrev pub Before : Shape → Image → ℕ → Image → Type 0
-Before s im e im′ = Merging s im e im′ × (e + obsoletes s im′ ≤ 1)
-
--- from the last page on, l has no live log block
-abbrev pub After : Shape → Image → ℕ → ℕ → Image → Type 0
-After s im l e im′ = Merging s im e im′ × NoLive s (blocksOf s im′) l
-
-module _ (s : Shape) (im : Image) (w : Sound s im) (rec : Recovered s (blocksOf s im)) (l : ℕ) (hl : l < s .logical)
-    (fb : ℕ) (fr : T (isFree (blocksOf s im fb .state))) (room : newNumber s (blocksOf s im) ≤ numberLimit) where
+module _ (s : Shape) (im : Image) (w : Sound s im) (l : ℕ) where
   abbrev c : Blocks
   c = blocksOf s im
-
-  abbrev n : ℕ
-  n = newNumber s c
-
-  abbrev g : ℕ → List ℕ
-  g o = content s im c (logicalPage s l o)
-
-  abbrev soFar : ℕ → Block
-  soFar = copyRecord s fb n l g
-
-  abbrev after : ℕ → Image
-  after m = copied s fb n l g m im
-
-  fb-below : fb < s .blocks
-  fb-below = good-below s c (w .wf .records) fb (free-good (c fb .state) fr)
-
-  fb-not-data : T (isData s c fb) → ⊥
-  fb-not-data t = free-not-used (c fb .state) fr (data-used s c fb t)
-
-  fb-not-live : T (isLive s c fb) → ⊥
-  fb-not-live t = free-not-used (c fb .state) fr (live-used s c fb t)
-
-  numbers-below : (j : ℕ) → j < s .blocks → c j .number < n
-  numbers-below j h = omega (arith, highest-ge s c j h)
 
   page-length : (b i : ℕ) → b < s .blocks → i < s .pages → length (pageBytes im (pageNo s b i)) ≡ 512
   page-length b i h k = part-length (im .bytes) (pageNo s b i * 512) 512 (omega (arith, w .fits .bytes-long, pageNo-below s b i h k))
 
-  long : (o : ℕ) → o < s .pages → length (g o) ≡ 512
+  long : (o : ℕ) → o < s .pages → length (contents s im c l o) ≡ 512
   long o h =
       content-length s (logicalPage s l o) (offsetOf-below s (w .fits .limits) (logicalPage s l o)) im c
       (λ i k. page-length v i (v-below i k) (omega (arith, w .wf .records .fits v)))
@@ -98,302 +47,44 @@ module _ (s : Shape) (im : Image) (w : Sound s im) (rec : Recovered s (blocksOf 
 
       v-below : (i : ℕ) → i < c v .filled → v < s .blocks
       v-below i k =
-          elim (liveLog-found s c (w .wf .records) m) [
-            | inl y ↦ used-below s c (w .wf .records) v (live-used s c v (y .passes))
-            | inr y ↦ absurd (omega (arith, none-filled s c (w .wf .records), ap (λ (j : ℕ). c j .filled) (y .is)))
-          ]
+          let some : v ≢ none = λ z. omega (arith, none-filled s c (w .wf .records), ap (λ (j : ℕ). c j .filled) z) in
+          used-below s c (w .wf .records) v (live-used s c v (has-some (liveLog-found s c (w .wf .records) m) some .passes))
 
       d-below : d ≢ none → d < s .blocks
-      d-below q =
-          elim (dataBlock-found s c (w .wf .records) m) [
-            | inl y ↦ used-below s c (w .wf .records) d (data-used s c d (y .passes))
-            | inr y ↦ absurd (q (y .is))
-          ]
+      d-below q = used-below s c (w .wf .records) d (data-used s c d (has-some (dataBlock-found s c (w .wf .records) m) q .passes))
 
-  pub made : (m : ℕ) → m ≤ s .pages → Copies s fb n l g im m
-  made = copies-is s fb n l g im (w .fits) fb-below fr (omega arith) room hl (logical-few s im w) long
-
-  -- ---- the records while pages are copied
-
-  -- a copy of m pages may be the record of fb
-  copy-fits : (m : ℕ) → m ≤ s .pages → Fitting s c fb (usedWith n copyKind l m true)
-  copy-fits m h =
-      record {
-        below = fb-below;
-        good = tt;
-        noIll = λ u. u;
-        free = λ u. absurd u;
-        inRange = λ u. hl;
-        fits = h;
-        fresh = λ u j ne v e. omega (arith, numbers-below j (used-below s c (w .wf .records) j v));
-      }
-
-  so-far-fits : (m : ℕ) → m ≤ s .pages → Fitting s c fb (soFar m)
-  so-far-fits zero h =
-      record { below = fb-below; good = tt; noIll = λ u. u; free = λ u. refl; inRange = λ u. absurd u; fits = omega arith; fresh = λ u. absurd u }
-  so-far-fits (suc m) h = copy-fits (suc m) h
-
-  so-far-number : (m : ℕ) → soFar m .number ≤ n
-  so-far-number zero = omega arith
-  so-far-number (suc m) = omega arith
-
-  so-far-idle : (m : ℕ) → m < s .pages → Idle s (soFar m)
-  so-far-idle m h =
-      record { incomplete = λ t. omega (arith, complete-e s (soFar m) t .full, copyRecord-filled s fb n l g m); noLog = no-log m }
-    where
-      no-log : (m : ℕ) → T (isUsed (soFar m .state)) → soFar m .kind ≢ logKind
-      no-log zero t = λ e. t
-      no-log (suc m) t = λ e. omega arith
-
-  so-far-sound : (m : ℕ) → m ≤ s .pages → WellFormed s (blocksOf s (after m)) → Sound s (after m)
-  so-far-sound m h wf =
-      record {
-        fits = made m h .fits;
-        wf = wf;
-        enough = rw (made m h .blocks) (omega (arith, goodBlocks-kept s c fb (soFar m) (so-far-fits m h .good), w .enough));
-      }
-
-  so-far-highest : (m : ℕ) → m ≤ s .pages → highest s (blocksOf s (after m)) ≤ highest s c + 1
-  so-far-highest m h =
-      rw (made m h .blocks)
-      (highest-le s (changed c fb (soFar m)) (highest s c + 1)
-      (changed-elim c fb (soFar m) (λ j z. j < s .blocks → z .number ≤ highest s c + 1) (λ k. omega (arith, so-far-number m))
-      (λ j ne k. omega (arith, highest-ge s c j k))))
-
-  -- ---- before the last page
-
-  copying : (m : ℕ) → m < s .pages → Before s im 0 (after m)
-  unfolding obsoletes
-  copying m h = (
-    record {
-      sound = so-far-sound m le (rw (q .blocks) (calm .wf));
-      same = λ a. ap (λ (k : Blocks). content s (after m) k a) (q .blocks)
-          ∙ contents-kept s im (after m) (w .fits) c (w .wf .records) fb (soFar m) fb-below (q .others) (calm .numbers) fb-not-data fb-not-live
-          (so-far-idle m h) a;
-      live = rw (q .blocks) (calm .live);
-      highest = so-far-highest m le;
-      total = omega (arith, one);
-    },
-    omega (arith, one),
-  )
-    where
-      le : m ≤ s .pages
-      le = omega arith
-
-      q : Copies s fb n l g im m
-      q = made m le
-
-      calm : Quiet s c (changed c fb (soFar m))
-      calm = quiet s c fb (soFar m) (w .wf) (so-far-fits m le) (so-far-idle m h) fb-not-data fb-not-live
-
-      only : (j : ℕ) → T (isObsolete s (changed c fb (soFar m)) j) → j ≡ fb
-      only j t =
-          elim (dec-eq j fb) [
-            | inl e ↦ e
-            | inr ne ↦ absurd (rec j (subst T (obsolete-other s c fb (soFar m) j ne (calm .numbers (c j .logical))) t))
-          ]
-
-      one : countBelow (s .blocks) (isObsolete s (blocksOf s (after m))) ≤ 1
-      one = rw (q .blocks) (countBelow-one (s .blocks) fb (isObsolete s (changed c fb (soFar m))) (λ j k. only j))
-
-  -- ---- with the last page
-
-  abbrev whole : Block
-  whole = usedWith n copyKind l (s .pages) true
-
-  abbrev c₂ : Blocks
-  c₂ = changed c fb whole
-
-  abbrev im₂ : Image
-  im₂ = after (s .pages)
-
-  q₂ : Copies s fb n l g im (s .pages)
-  q₂ = made (s .pages) (le-refl (s .pages))
-
-  blocks₂ : blocksOf s im₂ ≡ c₂
-  blocks₂ = q₂ .blocks ∙ ap (changed c fb) (copyRecord-some s fb n l g (s .pages) (omega (arith, w .fits .limits .pages-low)))
-
-  whole-fits : Fitting s c fb whole
-  whole-fits = copy-fits (s .pages) (le-refl (s .pages))
-
-  whole-complete : T (isComplete s whole)
-  whole-complete = complete-i s whole (record { used = tt; full = refl; order = tt })
-
-  completed : Completed s c fb whole
-  completed =
-      complete s c fb whole (w .wf) whole-fits whole-complete fb-not-data (dataNumber-below s c l n (omega arith) numbers-below)
-      (λ j ne t r. omega (arith, numbers-below j (used-below s c (w .wf .records) j (live-used s c j t))))
-
-  sound₂ : Sound s im₂
-  sound₂ = so-far-sound (s .pages) (le-refl (s .pages)) (rw blocks₂ (completed .wf))
-
-  data-is : dataBlock s c₂ l ≡ fb
-  data-is = dataBlock-is s c₂ (completed .wf) fb l (completed .isData) (ap (λ (y : Block). y .logical) (changed-same c fb whole))
-
-  log-is : liveLog s c₂ l ≡ none
-  log-is = liveLog-none s c₂ (completed .wf .records) l (completed .noLive)
-
-  same₂ : (a : ℕ) → contentOf s im₂ a ≡ contentOf s im a
-  same₂ a =
-      ap (λ (k : Blocks). content s im₂ k a) blocks₂
-      ∙ elim (dec-eq (blockOf s a) l) [
-        | inl r ↦
-            content-data s a low im₂ c₂
-            (ap (λ (v : ℕ). c₂ v .filled) (ap (liveLog s c₂) r ∙ log-is) ∙ none-filled s c₂ (completed .wf .records))
-            (λ y. below-none s c (w .wf .records) fb-below (sym data-is ∙ ap (dataBlock s c₂) (sym r) ∙ y))
-            ∙ ap (λ (d : ℕ). pageBytes im₂ (pageNo s d (offsetOf s a))) (ap (dataBlock s c₂) r ∙ data-is)
-            ∙ q₂ .pages (offsetOf s a) low
-            ∙ ap (content s im c) (ap (λ (m : ℕ). logicalPage s m (offsetOf s a)) (sym r) ∙ logicalPage-of s a)
-        | inr ne ↦
-            content-kept s im im₂ (w .fits) c (w .wf .records) fb whole fb-below (q₂ .others) a (completed .numbers (blockOf s a) ne)
-            (λ t. absurd (fb-not-data t)) (λ t. absurd (fb-not-live t)) (λ t y. ne (sym y)) (λ t y. ne (sym y))
-      ]
-    where
-      low : offsetOf s a < s .pages
-      low = offsetOf-below s (w .fits .limits) a
-
-  -- ---- the erases
-
-  abbrev log : ℕ
-  log = liveLog s c l
-
-  abbrev old : ℕ
-  old = dataBlock s c l
-
-  obsolete-then : (j : ℕ) → T (isObsolete s (blocksOf s im₂) j) → (j ≡ old) ⊎ (j ≡ log)
-  obsolete-then j t =
-      elim (complete-obsolete s c fb whole (w .wf) whole-fits whole-complete completed j (subst (λ (k : Blocks). T (isObsolete s k j)) blocks₂ t)) [
-        | inl o ↦ absurd (rec j o)
-        | inr r ↦ r
+  -- its own content: nothing reads differently
+  renewed-same : (a : ℕ) → renewed s l (contents s im c l) (contentOf s im) a ≡ contentOf s im a
+  unfolding renewed
+  renewed-same a =
+      elim (dec-eq (blockOf s a) l) [
+        | inl r ↦ rw (eq-eqb (blockOf s a) l r) (ap (content s im c) (ap (λ (m : ℕ). logicalPage s m (offsetOf s a)) (sym r) ∙ logicalPage-of s a))
+        | inr ne ↦ rw (ne-eqb (blockOf s a) l ne) refl
       ]
 
-  -- the blocks that l had
-  obsolete-old : (j : ℕ) → T (isUsed (c j .state)) → c j .logical ≡ l → T (isObsolete s (blocksOf s im₂) j)
-  obsolete-old j t r =
-      let ne : j ≢ fb = λ y. free-not-used (c fb .state) fr (subst (λ (i : ℕ). T (isUsed (c i .state))) y t) in
-      let z : c₂ j ≡ c j = changed-other c fb whole j ne in
-      subst (λ (k : Blocks). T (isObsolete s k j)) (sym blocks₂)
-      (below-obsolete s c₂ j (rw z t) (rw (z, r, completed .top) (numbers-below j (used-below s c (w .wf .records) j t))))
-
-  log-old : log ≢ none → T (isLive s c log) × T (isObsolete s (blocksOf s im₂) log)
-  log-old h =
-      elim (liveLog-found s c (w .wf .records) l) [
-        | inl y ↦ (y .passes, obsolete-old log (live-used s c log (y .passes)) (y .logical))
-        | inr y ↦ absurd (h (y .is))
-      ]
-
-  data-old : old ≢ none → T (isData s c old) × T (isObsolete s (blocksOf s im₂) old)
-  data-old h =
-      elim (dataBlock-found s c (w .wf .records) l) [
-        | inl y ↦ (y .passes, obsolete-old old (data-used s c old (y .passes)) (y .logical))
-        | inr y ↦ absurd (h (y .is))
-      ]
-
-  abbrev out : List ℕ
-  out = ifAny log ++ ifAny old
-
-  abbrev IsOld : ℕ → Type 0
-  IsOld x = T (isObsolete s (blocksOf s im₂) x)
-
-  tail : Along s (Erasing s im₂) 0 (map erase out) im₂
-      × ((j : ℕ) → T (isObsolete s (blocksOf s (stepsDone s (map erase out) im₂)) j) → IsOld j × All (λ x. j ≢ x) out)
-  tail =
-      erasing s im₂ out 0 im₂ (erasing-start s im₂ sound₂)
-      (all-append IsOld (ifAny log) (ifAny old) (found-all IsOld log (λ h. log-old h .1)) (found-all IsOld old (λ h. data-old h .1)))
-      (distinct-append (ifAny log) (ifAny old) (found-distinct log) (found-distinct old)
-      (found-all (λ y. All (λ x. y ≢ x) (ifAny log)) old
-      (λ h. found-all (λ x. old ≢ x) log
-      (λ k r. data-not-live s c log (subst (λ (i : ℕ). T (isData s c i)) r (data-old h .0)) (log-old k .0)))))
-
-  erased-after : (e : ℕ) (im′ : Image) → Erasing s im₂ e im′ → After s im l e im′
-  unfolding obsoletes
-  erased-after e im′ i = (
-    record {
-      sound = i .sound;
-      same = λ a. i .same a ∙ same₂ a;
-      live = liveIs-trans s c (blocksOf s im₂) (blocksOf s im′) (rw blocks₂ (completed .live)) (i .live);
-      highest = omega (arith, i .highest, so-far-highest (s .pages) (le-refl (s .pages)));
-      total = omega (arith, i .total, countBelow-two (s .blocks) old log (isObsolete s (blocksOf s im₂)) (λ j h. obsolete-then j));
-    },
-    λ j t r. let y = i .live j t in
-        completed .noLive j (subst (λ (z : Blocks). T (isLive s z j)) blocks₂ (y .0))
-        (ap (λ (z : Blocks). z j .logical) (sym blocks₂) ∙ ap (λ (z : Block). z .logical) (sym (y .1)) ∙ r),
-  )
-
-  ends-recovered : Recovered s (blocksOf s (stepsDone s (map erase out) im₂))
-  ends-recovered j t =
-      let r = tail .1 j t in
-      let h : j ≢ none =
-      below-none s c (w .wf .records) (used-below s (blocksOf s im₂) (sound₂ .wf .records) j (obsolete-e s (blocksOf s im₂) j (r .0) .0)) in
-      elim (obsolete-then j (r .0)) [
-        | inl y ↦ found-out old j h (all-right (λ x. j ≢ x) (ifAny log) (ifAny old) (r .1)) y
-        | inr y ↦ found-out log j h (all-left (λ x. j ≢ x) (ifAny log) (ifAny old) (r .1)) y
-      ]
-
-  -- ---- all of it
-
-  abbrev copyList : List Step
-  copyList = first s fb n l g (s .pages)
-
-  abbrev list : List Step
-  list = copyList ++ map erase out
-
-  no-erases : erases copyList ≡ 0
-  no-erases = copies-erases s fb n l g (s .pages)
-
-  all-along : (I : ℕ → Image → Type 0) → ((e : ℕ) (im′ : Image) → Before s im e im′ → I e im′)
-      → ((e : ℕ) (im′ : Image) → After s im l e im′ → I e im′) → Along s I 0 list im
-  all-along I f h =
-      along-append s I 0 copyList (map erase out) im
-      (copies-along s fb n l g im (w .fits) fb-below fr (omega arith) room hl (logical-few s im w) long I at (s .pages) (le-refl (s .pages)))
-      (subst (λ (e : ℕ). Along s I e (map erase out) im₂) (omega (arith, no-erases))
-      (along-map s (Erasing s im₂) I (λ e im′ i. h e im′ (erased-after e im′ i)) 0 (map erase out) im₂ (tail .0)))
-    where
-      at : (m : ℕ) → m ≤ s .pages → I 0 (after m)
-      at m le =
-          elim (dec-lt m (s .pages)) [
-            | inl lt ↦ f 0 (after m) (copying m lt)
-            | inr ge ↦
-                let z : s .pages ≡ m = omega arith in
-                subst (λ (k : ℕ). I 0 (after k)) z (h 0 im₂ (erased-after 0 im₂ (erasing-start s im₂ sound₂)))
-          ]
-
-  all-end : After s im l (0 + erases list) (stepsDone s list im) × Recovered s (blocksOf s (stepsDone s list im))
-  all-end =
-      let end : Image = stepsDone s (map erase out) im₂ in
-      let e : 0 + erases (map erase out) ≡ 0 + erases list = omega (arith, erases-append copyList (map erase out), no-erases) in
-      subst (λ (i : Image). After s im l (0 + erases list) i × Recovered s (blocksOf s i)) (sym (stepsDone-append s copyList (map erase out) im)) (
-        subst (λ (k : ℕ). After s im l k end) e
-            (erased-after (0 + erases (map erase out)) end (along-end s (Erasing s im₂) 0 (map erase out) im₂ (tail .0))),
-        ends-recovered,
+  as-held : (e : ℕ) (im′ : Image) → After s im l (renewed s l (contents s im c l) (contentOf s im)) e im′ → After s im l (contentOf s im) e im′
+  as-held e im′ r =
+      let q = r .0 in (
+        record { sound = q .sound; holds = λ a. q .holds a ∙ renewed-same a; live = q .live; highest = q .highest; total = q .total },
+        r .1,
       )
 
--- ---- the merge, as document 01 has it: the block that is taken is free
+  module _ (rec : Recovered s (blocksOf s im)) (hl : l < s .logical) (fit : newNumber s (blocksOf s im) ≤ numberLimit) where
+    -- after m of the pages
+    pub merge-made : (m : ℕ) → m ≤ s .pages → Copies s (taken s (blocksOf s im)) (newNumber s (blocksOf s im)) l (contents s im (blocksOf s im) l) im m
+    merge-made = renewal-made s im w rec l hl fit (contents s im c l) long
 
-module _ (s : Shape) (im : Image) (w : Sound s im) (rec : Recovered s (blocksOf s im)) (l : ℕ) (hl : l < s .logical)
-    (room : newNumber s (blocksOf s im) ≤ numberLimit) where
-  fb-free : T (isFree (blocksOf s im (taken s (blocksOf s im)) .state))
-  fb-free = taken-free s (blocksOf s im) (w .wf) rec (w .enough) .0
+    pub merge-along : (I : ℕ → Image → Type 0) → ((e : ℕ) (im′ : Image) → Before s im e im′ → I e im′)
+        → ((e : ℕ) (im′ : Image) → After s im l (contentOf s im) e im′ → I e im′)
+        → Along s I 0 (mergeList s im (blocksOf s im) l) im
+    unfolding mergeList
+    merge-along I f h = renewal-along s im w rec l hl fit (contents s im c l) long I f (λ e im′ r. h e im′ (as-held e im′ r))
 
-  pub merge-along : (I : ℕ → Image → Type 0) → ((e : ℕ) (im′ : Image) → Before s im e im′ → I e im′)
-      → ((e : ℕ) (im′ : Image) → After s im l e im′ → I e im′)
-      → Along s I 0 (mergeList s im (blocksOf s im) l) im
-  unfolding mergeList copies
-  merge-along = all-along s im w rec l hl (taken s (blocksOf s im)) fb-free room
-
-  pub merge-end : After s im l (0 + erases (mergeList s im (blocksOf s im) l)) (stepsDone s (mergeList s im (blocksOf s im) l) im)
-      × Recovered s (blocksOf s (stepsDone s (mergeList s im (blocksOf s im) l) im))
-  unfolding mergeList copies
-  merge-end = all-end s im w rec l hl (taken s (blocksOf s im)) fb-free room
+    pub merge-end : After s im l (contentOf s im) (0 + erases (mergeList s im (blocksOf s im) l)) (stepsDone s (mergeList s im (blocksOf s im) l) im)
+        × Recovered s (blocksOf s (stepsDone s (mergeList s im (blocksOf s im) l) im))
+    unfolding mergeList
+    merge-end = let r = renewal-end s im w rec l hl fit (contents s im c l) long in (as-held _ _ (r .0), r .1)
 
 pub merge-programs : (s : Shape) (im : Image) (c : Blocks) (l : ℕ) → programs (mergeList s im c l) ≡ s .pages
-unfolding mergeList copies
-merge-programs s im c l =
-    let g : ℕ → List ℕ = λ o. content s im c (logicalPage s l o) in
-    omega (
-      arith,
-      programs-append (listBelow (s .pages) (copyStep s (taken s c) (newNumber s c) l g))
-          (map erase (ifAny (liveLog s c l) ++ ifAny (dataBlock s c l))),
-      copies-programs s (taken s c) (newNumber s c) l g (s .pages),
-      programs-erases (ifAny (liveLog s c l) ++ ifAny (dataBlock s c l)),
-    )
+unfolding mergeList
+merge-programs s im c l = renewal-programs s c l (contents s im c l)

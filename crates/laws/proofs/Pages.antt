@@ -1,4 +1,4 @@
--- Laws of pages: what a page says, and the pages after a step. Assumes nothing.
+-- Laws of pages: what a page says, and the pages after a step.
 use mathlib.Core.Path.{_≡_, refl, sym, ap, _∙_, subst}
 use mathlib.Core.Logic.{_≢_, _⊎_, inl, inr, ⊎-elim}
 use mathlib.Core.List.{List, [], _∷_, _++_}
@@ -15,7 +15,7 @@ use Rattle.rules.specs.Spare.{numberLimit, numberIn, kindIn, addressIn, inTable
 use Rattle.rules.specs.Shape.{pageNo}
 use Rattle.rules.specs.Page.{Image, pageBytes, pageSpare, erased, pageOf, pageAt, isErased, isEntry, numberOf, kindOf, addressOf}
 use Rattle.rules.specs.Steps.{Step, program, erase, stepDone, stepsDone}
-use Rattle.rules.specs.Facts.{Fits}
+use Rattle.rules.specs.Facts.{Fits, Left}
 use Rattle.rules.proofs.Sizes.{block-within}
 use Rattle.laws.proofs.Tests.{tcase, true-is, false-is, and-l, and-i, cond-yes, cond-no, dec-lt}
 use Rattle.laws.proofs.Bytes.{all255-replicate, part-replicate, replaced-length, part-replaced-same, part-replaced-inside, part-replaced-before, part-replaced-after}
@@ -63,16 +63,23 @@ pageOf-spareBytes d n k a low high kind small =
     pageOf-entry d t (λ e. false-is (all255 t) (spareBytes-not-255 n k a kind) (and-l (all255 t) (all255 d) e)) (spareBytes-inTable n k a low high kind)
     ∙ cc (spareBytes-kind n k a)
 
--- the spare bytes of an entry
-pub pageOf-isEntry : (d t : List ℕ) → T (isEntry (pageOf d t)) → InTable t × (pageOf d t ≡ Entry (numberIn t) (kindIn t) (addressIn t))
-pageOf-isEntry d t h =
+-- what holds of a page, if it is erased, an entry or junk
+pub pageOf-cases : (d t : List ℕ) (Q : Page → Type 0) → (T (erased d t) → Q Erased) → (InTable t → Q (Entry (numberIn t) (kindIn t) (addressIn t)))
+    → Q Junk → Q (pageOf d t)
+pageOf-cases d t Q blank entry junk =
     elim (tcase (erased d t)) [
-      | inl e ↦ absurd (subst (λ (g : Page). T (isEntry g)) (pageOf-erased d t e) h)
+      | inl e ↦ rw (pageOf-erased d t e) (blank e)
       | inr e ↦ elim (tcase (inTable t)) [
-        | inl f ↦ (inTable-facts t f, pageOf-entry d t (T-not (erased d t) e) f)
-        | inr f ↦ absurd (subst (λ (g : Page). T (isEntry g)) (pageOf-junk d t (T-not (erased d t) e) (T-not (inTable t) f)) h)
+        | inl f ↦ rw (pageOf-entry d t (T-not (erased d t) e) f) (entry (inTable-facts t f))
+        | inr f ↦ rw (pageOf-junk d t (T-not (erased d t) e) (T-not (inTable t) f)) junk
       ]
     ]
+
+-- the spare bytes of an entry
+pub pageOf-isEntry : (d t : List ℕ) → T (isEntry (pageOf d t)) → InTable t × (pageOf d t ≡ Entry (numberIn t) (kindIn t) (addressIn t))
+pageOf-isEntry d t =
+    pageOf-cases d t (λ q. T (isEntry q) → InTable t × (q ≡ Entry (numberIn t) (kindIn t) (addressIn t))) (λ e u. absurd u) (λ f u. (f, refl))
+    (λ u. absurd u)
 
 -- ---- pages of w bytes, end to end: those from page c on are replaced, m of them
 
@@ -224,11 +231,6 @@ abbrev pub StepsIn : Shape → List Step → Type 0
 StepsIn s [] = Unit {0}
 StepsIn s (x ∷ xs) = StepIn s x × StepsIn s xs
 
-pub steps-fit : (s : Shape) (im : Image) → Fits s im → (xs : List Step) → StepsIn s xs → Fits s (stepsDone s xs im)
-unfolding stepsDone
-steps-fit s im w [] g = w
-steps-fit s im w (x ∷ xs) g = steps-fit s (stepDone s x im) (step-fits s im w x (g .0)) xs (g .1)
-
 -- no step is on block j
 abbrev pub Apart : Shape → ℕ → List Step → Type 0
 Apart s j [] = Unit {0}
@@ -247,3 +249,7 @@ stepsDone-append s [] ys im = refl
 stepsDone-append s (x ∷ xs) ys im = stepsDone-append s xs ys (stepDone s x im)
 
 -- ---- the two slices that an image is lent in
+
+-- no other bytes than its own are left in them
+pub left-one : {im : Image} {bytes bytes′ spare spare′ : List ℕ} → Left im bytes spare → Left im bytes′ spare′ → (bytes ≡ bytes′) × (spare ≡ spare′)
+left-one h k = (h .bytes-are ∙ sym (k .bytes-are), h .spare-are ∙ sym (k .spare-are))

@@ -1,6 +1,7 @@
--- The records of an image: what each has, whatever the bytes. Assumes nothing.
+-- The records of an image: what each has, whatever the bytes.
 use mathlib.Core.Path.{_≡_, refl, sym, subst}
-use mathlib.Core.Logic.{inl, inr}
+use mathlib.Core.Logic.{_⊎_, inl, inr}
+use mathlib.Core.List.{[], _∷_}
 use mathlib.Core.Bool.{Bool, not, _&&_}
 use Prim.Native.Nat.{ℕ, _*_, _≤_, _<_}
 use native.Mathlib.Omega.{arith}
@@ -12,12 +13,14 @@ use Rattle.rules.specs.declared.page.Page.the-variants.{Erased}
 use Rattle.rules.specs.declared.block.State.the-variants.{Bad, Free, Ill}
 use Rattle.rules.specs.declared.block.Block.{Block}
 use Rattle.rules.specs.Below.{allBelow, listBelow}
-use Rattle.rules.specs.Shape.{blockOf, inRange, pageNo}
-use Rattle.rules.specs.Page.{Image, pageAt, isErased, addressOf}
-use Rattle.rules.specs.WellFormed.{Pages, W1, W2, W3, W4, W1to4, notUsed, allErased, usedBlock, goodBlock, isBad, pagesOf, blockAt, blocksOf, isUsed, isFree}
-use Rattle.laws.proofs.Tests.{tcase, is-true, is-false, and-l, and-r, or-e, dec-lt}
+use Rattle.rules.specs.Shape.{most, blockOf, inRange, pageNo}
+use Rattle.rules.specs.Page.{Image, pageBytes, pageSpare, pageAt, isErased, kindOf, addressOf}
+use Rattle.rules.specs.WellFormed.{naming, Pages, W1, W2, W3, W4, W1to4, notUsed, allErased, usedBlock, goodBlock, isBad, pagesOf, blockAt, blocksOf, isUsed, isFree}
+use Rattle.laws.proofs.Tests.{tcase, is-true, is-false, and-l, or-e, dec-lt, chain-each}
 use Rattle.laws.proofs.Below.{allBelow-at, allBelow-all, countBelow-most, listBelow-length, listBelow-at}
 use Rattle.laws.proofs.Roles.{Records}
+use Rattle.laws.proofs.Spare.{Kind}
+use Rattle.laws.proofs.Pages.{pageOf-cases}
 
 -- ---- the records and the pages of an image, by number
 
@@ -38,20 +41,16 @@ module _ (s : Shape) (im : Image) where
 -- ---- a used block
 
 module _ (s : Shape) (g : Pages) where
-  -- what block b with pages g is, by its record
-  pub data Seen : Block → Type 0 where
-    seen-free : T (allErased s g) → Seen (notUsed Free)
-    seen-ill : Seen (notUsed Ill)
-    seen-used : (T (allErased s g) → ⊥) → T (W1to4 s g) → Seen (usedBlock s g)
-
-  pub goodBlock-seen : Seen (goodBlock s g)
+  -- what holds of the record of pages g, if it is free, ill or used
+  pub goodBlock-cases : (Q : Block → Type 0) → (T (allErased s g) → Q (notUsed Free)) → Q (notUsed Ill)
+      → ((T (allErased s g) → ⊥) → T (W1to4 s g) → Q (usedBlock s g)) → Q (goodBlock s g)
   unfolding goodBlock
-  goodBlock-seen =
+  goodBlock-cases Q free ill used =
       elim (tcase (allErased s g)) [
-        | inl t ↦ rw (is-true (allErased s g) t) (seen-free t)
+        | inl t ↦ rw (is-true (allErased s g) t) (free t)
         | inr t ↦ rw (is-false (allErased s g) (T-not (allErased s g) t)) (elim (tcase (W1to4 s g)) [
-          | inl u ↦ rw (is-true (W1to4 s g) u) (seen-used (T-not (allErased s g) t) u)
-          | inr u ↦ rw (is-false (W1to4 s g) (T-not (W1to4 s g) u)) seen-ill
+          | inl u ↦ rw (is-true (W1to4 s g) u) (used (T-not (allErased s g) t) u)
+          | inr u ↦ rw (is-false (W1to4 s g) (T-not (W1to4 s g) u)) ill
         ])
       ]
 
@@ -62,10 +61,7 @@ module _ (s : Shape) (g : Pages) where
   pub rules-e : T (W1to4 s g) → T (allBelow (s .pages) (W1 s g)) × T (allBelow (s .pages) (W2 s g)) × T (allBelow (s .pages) (W3 s g))
       × T (allBelow (s .pages) (W4 s g))
   unfolding W1to4
-  rules-e t =
-      let t₃ : T (all W1 && all W2 && all W3) = and-l (all W1 && all W2 && all W3) (all W4) t in
-      let t₂ : T (all W1 && all W2) = and-l (all W1 && all W2) (all W3) t₃ in
-      (and-l (all W1) (all W2) t₂, and-r (all W1) (all W2) t₂, and-r (all W1 && all W2) (all W3) t₃, and-r (all W1 && all W2 && all W3) (all W4) t)
+  rules-e t = let (t₁, (t₂, (t₃, (t₄, _)))) = chain-each (all W1) (all W2 ∷ all W3 ∷ all W4 ∷ []) t in (t₁, t₂, t₃, t₄)
 
   -- W1: before a page that is programmed there is no erased one
   pub W1-before : T (W1to4 s g) → (i j : ℕ) → i < s .pages → j < i → (T (isErased (g i)) → ⊥) → T (isErased (g j)) → ⊥
@@ -77,7 +73,7 @@ module _ (s : Shape) (g : Pages) where
       ]
 
   -- its first page is programmed
-  pub first-programmed : (T (allErased s g) → ⊥) → T (W1to4 s g) → T (isErased (g 0)) → ⊥
+  pub first-programmed : (T (allErased s g) → ⊥) → T (W1to4 s g) → T (isErased (naming g)) → ⊥
   first-programmed f t e = f (allBelow-all (s .pages) (λ i. isErased (g i)) erased-at)
     where
       erased-at : (i : ℕ) → i < s .pages → T (isErased (g i))
@@ -90,32 +86,17 @@ module _ (s : Shape) (g : Pages) where
             ]
           ]
 
-  pub logical-inRange : 0 < s .pages → (T (allErased s g) → ⊥) → T (W1to4 s g) → blockOf s (addressOf (g 0)) < s .logical
+  pub logical-inRange : 0 < s .pages → (T (allErased s g) → ⊥) → T (W1to4 s g) → blockOf s (addressOf (naming g)) < s .logical
   unfolding W3
   logical-inRange p f t =
-      elim (or-e (isErased (g 0)) (inRange s (addressOf (g 0)) && eqb (blockOf s (addressOf (g 0))) (blockOf s (addressOf (g 0))))
+      elim (or-e (isErased (naming g)) (inRange s (addressOf (naming g)) && eqb (blockOf s (addressOf (naming g))) (blockOf s (addressOf (naming g))))
       (allBelow-at (s .pages) (W3 s g) (rules-e t .2) 0 p)) [
         | inl e ↦ absurd (first-programmed f t e)
         | inr a ↦
             div-lt-iff-lt-mul p .1
-            (ltb→lt (addressOf (g 0)) (s .logical * s .pages)
-            (and-l (inRange s (addressOf (g 0))) (eqb (blockOf s (addressOf (g 0))) (blockOf s (addressOf (g 0)))) a))
+            (ltb→lt (addressOf (naming g)) (s .logical * s .pages)
+            (and-l (inRange s (addressOf (naming g))) (eqb (blockOf s (addressOf (naming g))) (blockOf s (addressOf (naming g)))) a))
       ]
-
-  seen-free-is : {x : Block} → Seen x → T (isFree (x .state)) → x ≡ notUsed Free
-  seen-free-is (seen-free t) u = refl
-  seen-free-is seen-ill u = absurd u
-  seen-free-is (seen-used f t) u = absurd u
-
-  seen-inRange : 0 < s .pages → {x : Block} → Seen x → T (isUsed (x .state)) → x .logical < s .logical
-  seen-inRange p (seen-free t) u = absurd u
-  seen-inRange p seen-ill u = absurd u
-  seen-inRange p (seen-used f t) u = logical-inRange p f t
-
-  seen-fits : {x : Block} → Seen x → x .filled ≤ s .pages
-  seen-fits (seen-free t) = omega arith
-  seen-fits seen-ill = omega arith
-  seen-fits (seen-used f t) = countBelow-most (s .pages) (λ i. not (isErased (g i)))
 
 -- ---- the records of an image
 
@@ -136,7 +117,24 @@ module _ (s : Shape) (im : Image) where
         | inr t ↦ rw (blockAt-good b (T-not (isBad s im b) t)) q
       ]
 
-  pub blocksOf-records : 0 < s .pages → s .blocks ≤ 64 → Records s (blocksOf s im)
+  -- no kind, log or copy
+  pub blockAt-kind : 0 < s .pages → (b : ℕ) → (blockAt s im b .kind ≡ 0) ⊎ Kind (blockAt s im b .kind)
+  unfolding pageAt
+  blockAt-kind p b =
+      blockAt-cases (λ x. (x .kind ≡ 0) ⊎ Kind (x .kind)) b (inl refl)
+      (goodBlock-cases s (pagesOf s im b) (λ x. (x .kind ≡ 0) ⊎ Kind (x .kind)) (λ t. inl refl) (inl refl)
+      (λ f t. rw (pagesOf-at s im b 0 p)
+      (pageOf-cases (pageBytes im (pageNo s b 0)) (pageSpare im (pageNo s b 0)) (λ q. (kindOf q ≡ 0) ⊎ Kind (kindOf q)) (λ e. inl refl)
+      (λ e. inr (e .kind)) (inl refl))))
+
+  -- the logical block of any of them is 0 or below L
+  pub blockAt-logical : 0 < s .pages → (b : ℕ) → (blockAt s im b .logical ≡ 0) ⊎ (blockAt s im b .logical < s .logical)
+  blockAt-logical p b =
+      blockAt-cases (λ x. (x .logical ≡ 0) ⊎ (x .logical < s .logical)) b (inl refl)
+      (goodBlock-cases s (pagesOf s im b) (λ x. (x .logical ≡ 0) ⊎ (x .logical < s .logical)) (λ t. inl refl) (inl refl)
+      (λ f t. inr (logical-inRange s (pagesOf s im b) p f t)))
+
+  pub blocksOf-records : 0 < s .pages → s .blocks ≤ most → Records s (blocksOf s im)
   blocksOf-records p few =
       record { few = few; outside = blocksOf-outside s im; free = λ j. cases j .2; inRange = λ j. cases j .0; fits = λ j. cases j .1 }
     where
@@ -146,7 +144,8 @@ module _ (s : Shape) (im : Image) where
       good : (b : ℕ) → Q (goodBlock s (pagesOf s im b))
       good b =
           let g : Pages = pagesOf s im b in
-          (seen-inRange s g p (goodBlock-seen s g), seen-fits s g (goodBlock-seen s g), seen-free-is s g (goodBlock-seen s g))
+          goodBlock-cases s g Q (λ t. ((λ u. absurd u), omega arith, (λ u. refl))) ((λ u. absurd u), omega arith, (λ u. absurd u))
+          (λ f t. ((λ u. logical-inRange s g p f t), countBelow-most (s .pages) (λ i. not (isErased (g i))), (λ u. absurd u)))
 
       bad : Q (notUsed Bad)
       bad = ((λ u. absurd u), omega arith, (λ u. absurd u))

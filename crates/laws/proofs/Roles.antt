@@ -1,7 +1,8 @@
--- Laws of the records of a card: the roles of used blocks, W5 to W7 as facts, and the free block. Assumes nothing.
+-- Laws of the records of a card: the roles of used blocks, W5 to W7 as facts, and the free block.
 use mathlib.Core.Path.{_≡_, refl, sym, ap, _∙_, subst}
 use mathlib.Core.Logic.{_≢_, _⊎_, inl, inr}
 use mathlib.Core.Bool.{Bool, true, false, not, _&&_, cond}
+use mathlib.Core.List.{List, [], _∷_}
 use Prim.Native.Nat.{ℕ, _+_, _≤_, _<_}
 use native.Mathlib.Omega.{arith}
 use lib.Dec.{T, ltb, eqb, leb→le, le→leb, ltb→lt, lt→ltb, eqb→eq, eqb-refl, T-not, not-T}
@@ -11,11 +12,11 @@ use Rattle.rules.specs.declared.block.State.the-variants.{Bad, Free, Ill, Used}
 use Rattle.rules.specs.declared.block.Block.{Block}
 use Rattle.rules.specs.Below.{none, allBelow, countBelow, firstBelow}
 use Rattle.rules.specs.Spare.{logKind}
-use Rattle.rules.specs.Shape.{goodNeeded}
+use Rattle.rules.specs.Shape.{most, goodNeeded}
 use Rattle.rules.specs.WellFormed.{Blocks, notUsed, isGood, isFree, isIll, isUsed, noTwo, W5, isComplete, dataNumber, isData, isLive, W6, isObsolete, dataBlock, liveLog, liveLogs, W7, wellFormed}
 use Rattle.rules.specs.Steps.{taken, highest}
 use Rattle.rules.specs.Replies.{goodBlocks, unrecovered}
-use Rattle.laws.proofs.Tests.{tcase, bool-ext, and-l, and-r, and-i, cond-yes, dec-lt, eq→eqb}
+use Rattle.laws.proofs.Tests.{tcase, bool-ext, and-l, and-r, and-i, cond-yes, dec-lt, eq→eqb, chain-each, each-chain}
 use Rattle.laws.proofs.Below.{allBelow-at, allBelow-all, bit, bit-le, bit-one, bit-zero, sumBelow-le, sumBelow-add, sumBelow-ones, countBelow-sum, countBelow-places, highestBelow-ge, highestBelow-le, highestBelow-at, firstBelow-found, firstBelow-same}
 
 -- ---- states
@@ -38,17 +39,12 @@ free-not-used Free t u = u
 free-not-used Ill t u = t
 free-not-used Used t u = t
 
-pub ill-good : (st : State) → T (isIll st) → T (isGood st)
-ill-good Bad t = t
-ill-good Free t = tt
-ill-good Ill t = tt
-ill-good Used t = tt
-
-pub free-not-ill : (st : State) → T (isFree st) → T (isIll st) → ⊥
-free-not-ill Bad t u = t
-free-not-ill Free t u = u
-free-not-ill Ill t u = t
-free-not-ill Used t u = t
+-- what is free, if it is good, is neither used nor ill
+pub free-if-good : (st : State) → (T (isGood st) → T (isFree st)) → (T (isUsed st) → ⊥) × (T (isIll st) → ⊥)
+free-if-good Bad f = ((λ u. u), (λ u. u))
+free-if-good Free f = ((λ u. u), (λ u. u))
+free-if-good Ill f = ((λ u. u), (λ u. f tt))
+free-if-good Used f = ((λ u. f tt), (λ u. u))
 
 -- a good block is free, ill or used
 pub good-used : (st : State) → T (isGood st) → (T (isFree st) → ⊥) → (T (isIll st) → ⊥) → T (isUsed st)
@@ -61,7 +57,7 @@ good-used Used t f g = tt
 
 -- what the records of an image have, whatever its bytes
 pub record Records (s : Shape) (c : Blocks) : Type 0 where
-  pub few : s .blocks ≤ 64
+  pub few : s .blocks ≤ most
   pub outside : (j : ℕ) → s .blocks ≤ j → c j ≡ notUsed Bad
   pub free : (j : ℕ) → T (isFree (c j .state)) → c j ≡ notUsed Free
   pub inRange : (j : ℕ) → T (isUsed (c j .state)) → c j .logical < s .logical
@@ -96,19 +92,13 @@ pub record Complete (s : Shape) (x : Block) : Type 0 where
 pub complete-e : (s : Shape) (x : Block) → T (isComplete s x) → Complete s x
 unfolding isComplete
 complete-e s x t =
-    let u : T (isUsed (x .state) && eqb (x .filled) (s .pages)) = and-l (isUsed (x .state) && eqb (x .filled) (s .pages)) (x .ordered) t in
-    record {
-      used = and-l (isUsed (x .state)) (eqb (x .filled) (s .pages)) u;
-      full = eqb→eq (x .filled) (s .pages) (and-r (isUsed (x .state)) (eqb (x .filled) (s .pages)) u);
-      order = and-r (isUsed (x .state) && eqb (x .filled) (s .pages)) (x .ordered) t;
-    }
+    let (u, (f, (o, _))) = chain-each (isUsed (x .state)) (eqb (x .filled) (s .pages) ∷ x .ordered ∷ []) t in
+    record { used = u; full = eqb→eq (x .filled) (s .pages) f; order = o }
 
 pub complete-i : (s : Shape) (x : Block) → Complete s x → T (isComplete s x)
 unfolding isComplete
 complete-i s x p =
-    and-i (isUsed (x .state) && eqb (x .filled) (s .pages)) (x .ordered)
-    (and-i (isUsed (x .state)) (eqb (x .filled) (s .pages)) (p .used) (eq→eqb (x .filled) (s .pages) (p .full)))
-    (p .order)
+    each-chain (isUsed (x .state)) (eqb (x .filled) (s .pages) ∷ x .ordered ∷ []) (p .used) (eq→eqb (x .filled) (s .pages) (p .full), (p .order, tt))
 
 -- ---- the roles as facts, by the number d of the data block
 
@@ -139,29 +129,20 @@ module _ (s : Shape) (c : Blocks) (j : ℕ) where
   unfolding isData
   data-i p = and-i (isComplete s (c j)) (eqb (c j .number) dataOf) (p .complete) (eq→eqb (c j .number) dataOf (p .number))
 
-  abbrev isLog : Bool
-  isLog = isUsed (c j .state) && eqb (c j .kind) logKind
+  abbrev live-tests : List Bool
+  live-tests = eqb (c j .kind) logKind ∷ not (isComplete s (c j)) ∷ ltb dataOf (c j .number) ∷ []
 
   pub live-e : T (isLive s c j) → IsLive s (dataNumber s c (c j .logical)) (c j)
   unfolding isLive
   live-e t =
-      let u : T (isLog && not (isComplete s (c j))) = and-l (isLog && not (isComplete s (c j))) (ltb dataOf (c j .number)) t in
-      let v : T isLog = and-l isLog (not (isComplete s (c j))) u in
-      record {
-        used = and-l (isUsed (c j .state)) (eqb (c j .kind) logKind) v;
-        log = eqb→eq (c j .kind) logKind (and-r (isUsed (c j .state)) (eqb (c j .kind) logKind) v);
-        incomplete = T-not (isComplete s (c j)) (and-r isLog (not (isComplete s (c j))) u);
-        above = ltb→lt dataOf (c j .number) (and-r (isLog && not (isComplete s (c j))) (ltb dataOf (c j .number)) t);
-      }
+      let (u, (k, (n, (a, _)))) = chain-each (isUsed (c j .state)) live-tests t in
+      record { used = u; log = eqb→eq (c j .kind) logKind k; incomplete = T-not (isComplete s (c j)) n; above = ltb→lt dataOf (c j .number) a }
 
   pub live-i : IsLive s (dataNumber s c (c j .logical)) (c j) → T (isLive s c j)
   unfolding isLive
   live-i p =
-      and-i (isLog && not (isComplete s (c j))) (ltb dataOf (c j .number))
-      (and-i isLog (not (isComplete s (c j)))
-      (and-i (isUsed (c j .state)) (eqb (c j .kind) logKind) (p .used) (eq→eqb (c j .kind) logKind (p .log)))
-      (not-T (isComplete s (c j)) (p .incomplete)))
-      (lt→ltb dataOf (c j .number) (p .above))
+      each-chain (isUsed (c j .state)) live-tests (p .used)
+      (eq→eqb (c j .kind) logKind (p .log), (not-T (isComplete s (c j)) (p .incomplete), (lt→ltb dataOf (c j .number) (p .above), tt)))
 
   pub data-used : T (isData s c j) → T (isUsed (c j .state))
   data-used t = complete-e s (c j) (data-e t .complete) .used
@@ -173,20 +154,15 @@ module _ (s : Shape) (c : Blocks) (j : ℕ) where
   data-not-live t u = live-e u .incomplete (data-e t .complete)
 
   pub obsolete-e : T (isObsolete s c j) → T (isUsed (c j .state)) × (T (isData s c j) → ⊥) × (T (isLive s c j) → ⊥)
-  unfolding isObsolete
+  unfolding isObsolete isData isLive
   obsolete-e t =
-      let u : T (isUsed (c j .state) && not (isData s c j)) = and-l (isUsed (c j .state) && not (isData s c j)) (not (isLive s c j)) t in (
-        and-l (isUsed (c j .state)) (not (isData s c j)) u,
-        T-not (isData s c j) (and-r (isUsed (c j .state)) (not (isData s c j)) u),
-        T-not (isLive s c j) (and-r (isUsed (c j .state) && not (isData s c j)) (not (isLive s c j)) t),
-      )
+      let (u, (d, (v, _))) = chain-each (isUsed (c j .state)) (not (isData s c j) ∷ not (isLive s c j) ∷ []) t in
+      (u, T-not (isData s c j) d, T-not (isLive s c j) v)
 
   pub obsolete-i : T (isUsed (c j .state)) → (T (isData s c j) → ⊥) → (T (isLive s c j) → ⊥) → T (isObsolete s c j)
-  unfolding isObsolete
+  unfolding isObsolete isData isLive
   obsolete-i t f g =
-      and-i (isUsed (c j .state) && not (isData s c j)) (not (isLive s c j))
-      (and-i (isUsed (c j .state)) (not (isData s c j)) t (not-T (isData s c j) f))
-      (not-T (isLive s c j) g)
+      each-chain (isUsed (c j .state)) (not (isData s c j) ∷ not (isLive s c j) ∷ []) t (not-T (isData s c j) f, (not-T (isLive s c j) g, tt))
 
   -- a used block is data block, live or obsolete
   pub used-roles : T (isUsed (c j .state)) → T (isData s c j) ⊎ (T (isLive s c j) ⊎ T (isObsolete s c j))
@@ -250,19 +226,34 @@ module _ (s : Shape) (c : Blocks) where
 
 -- ---- W5 to W7 as facts
 
--- clash is true of no two blocks
-noTwo-at : (s : Shape) (clash : ℕ → ℕ → Bool) → T (noTwo s clash) → (i j : ℕ) → i < s .blocks → j < i → T (clash i j) → ⊥
-noTwo-at s clash t i j h k u =
-    T-not (clash i j) (allBelow-at i (λ j. not (clash i j)) (allBelow-at (s .blocks) (λ i. allBelow i (λ j. not (clash i j))) t i h) j k) u
+-- blocks of a role, by a number of theirs
+module _ (s : Shape) (role : ℕ → Bool) (number : ℕ → ℕ) where
+  -- no two of them have the same
+  abbrev One : Type 0
+  One = (i j : ℕ) → T (role i) → T (role j) → number i ≡ number j → i ≡ j
 
-noTwo-all : (s : Shape) (clash : ℕ → ℕ → Bool) → ((i j : ℕ) → j < i → T (clash i j) → ⊥) → T (noTwo s clash)
-noTwo-all s clash f =
-    allBelow-all (s .blocks) (λ i. allBelow i (λ j. not (clash i j)))
-    (λ i h. allBelow-all i (λ j. not (clash i j)) (λ j k. not-T (clash i j) (f i j k)))
+  abbrev clash : ℕ → ℕ → Bool
+  clash i j = role i && role j && eqb (number i) (number j)
 
--- what may not be true of two blocks holds of one
-apart : (i j : ℕ) → (i < j → ⊥) → (j < i → ⊥) → i ≡ j
-apart i j f g = elim (dec-lt i j) [ inl h ↦ absurd (f h) | inr h ↦ elim (dec-lt j i) [ inl k ↦ absurd (g k) | inr k ↦ omega arith ] ]
+  one-e : ((j : ℕ) → T (role j) → j < s .blocks) → T (noTwo s clash) → One
+  one-e below t i j u v e =
+      elim (dec-lt i j) [
+        | inl h ↦ absurd (no j i v u (sym e) h)
+        | inr h ↦ elim (dec-lt j i) [ inl k ↦ absurd (no i j u v e k) | inr k ↦ omega arith ]
+      ]
+    where
+      no : (i j : ℕ) → T (role i) → T (role j) → number i ≡ number j → j < i → ⊥
+      no i j u v e h =
+          T-not (clash i j)
+          (allBelow-at i (λ j. not (clash i j)) (allBelow-at (s .blocks) (λ i. allBelow i (λ j. not (clash i j))) t i (below i u)) j h)
+          (each-chain (role i) (role j ∷ eqb (number i) (number j) ∷ []) u (v, (eq→eqb (number i) (number j) e, tt)))
+
+  one-i : One → T (noTwo s clash)
+  one-i one =
+      allBelow-all (s .blocks) (λ i. allBelow i (λ j. not (clash i j)))
+      (λ i h. allBelow-all i (λ j. not (clash i j)) (λ j k. not-T (clash i j) (λ t.
+      let (u, (v, (e, _))) = chain-each (role i) (role j ∷ eqb (number i) (number j) ∷ []) t in
+      let same : i ≡ j = one i j u v (eqb→eq (number i) (number j) e) in omega arith)))
 
 pub record WellFormed (s : Shape) (c : Blocks) : Type 0 where
   pub records : Records s c
@@ -272,58 +263,32 @@ pub record WellFormed (s : Shape) (c : Blocks) : Type 0 where
   pub fewLive : liveLogs s c ≤ s .logs
 
 module _ (s : Shape) (c : Blocks) (r : Records s c) where
-  abbrev same5 : ℕ → ℕ → Bool
-  same5 i j = isUsed (c i .state) && isUsed (c j .state) && eqb (c i .number) (c j .number)
-
-  abbrev same6 : ℕ → ℕ → Bool
-  same6 i j = isLive s c i && isLive s c j && eqb (c i .logical) (c j .logical)
-
-  both : (a b : Bool) (m n : ℕ) → T a → T b → m ≡ n → T (a && b && eqb m n)
-  both a b m n t u e = and-i (a && b) (eqb m n) (and-i a b t u) (eq→eqb m n e)
-
-  clash : (a b : Bool) (m n : ℕ) → T (a && b && eqb m n) → T a × T b × (m ≡ n)
-  clash a b m n t =
-      (and-l a b (and-l (a && b) (eqb m n) t), and-r a b (and-l (a && b) (eqb m n) t), eqb→eq m n (and-r (a && b) (eqb m n) t))
-
   abbrev noneIll : Bool
   noneIll = allBelow (s .blocks) (λ j. not (isIll (c j .state)))
 
   pub wellFormed-e : T (wellFormed s c) → WellFormed s c
   unfolding wellFormed W5 W6 W7
   wellFormed-e t =
-      let t₆ : T (noneIll && W5 s c && W6 s c) = and-l (noneIll && W5 s c && W6 s c) (W7 s c) t in
-      let t₅ : T (noneIll && W5 s c) = and-l (noneIll && W5 s c) (W6 s c) t₆ in
+      let (t₄, (t₅, (t₆, (t₇, _)))) = chain-each noneIll (W5 s c ∷ W6 s c ∷ W7 s c ∷ []) t in
       record {
         records = r;
         noIll = λ j u. elim (dec-lt j (s .blocks)) [
-          | inl h ↦ T-not (isIll (c j .state)) (allBelow-at (s .blocks) (λ j. not (isIll (c j .state))) (and-l noneIll (W5 s c) t₅) j h) u
+          | inl h ↦ T-not (isIll (c j .state)) (allBelow-at (s .blocks) (λ j. not (isIll (c j .state))) t₄ j h) u
           | inr h ↦ subst (λ (x : Block). T (isIll (x .state))) (r .outside j h) u
         ];
-        numbers = λ i j u v e. apart i j
-            (λ h. noTwo-at s same5 (and-r noneIll (W5 s c) t₅) j i (used-below s c r j v) h
-            (both (isUsed (c j .state)) (isUsed (c i .state)) (c j .number) (c i .number) v u (sym e)))
-            (λ h. noTwo-at s same5 (and-r noneIll (W5 s c) t₅) i j (used-below s c r i u) h
-            (both (isUsed (c i .state)) (isUsed (c j .state)) (c i .number) (c j .number) u v e));
-        oneLive = λ i j u v e. apart i j
-            (λ h. noTwo-at s same6 (and-r (noneIll && W5 s c) (W6 s c) t₆) j i (used-below s c r j (live-used s c j v)) h
-            (both (isLive s c j) (isLive s c i) (c j .logical) (c i .logical) v u (sym e)))
-            (λ h. noTwo-at s same6 (and-r (noneIll && W5 s c) (W6 s c) t₆) i j (used-below s c r i (live-used s c i u)) h
-            (both (isLive s c i) (isLive s c j) (c i .logical) (c j .logical) u v e));
-        fewLive = leb→le (liveLogs s c) (s .logs) (and-r (noneIll && W5 s c && W6 s c) (W7 s c) t);
+        numbers = one-e s (λ j. isUsed (c j .state)) (λ j. c j .number) (used-below s c r) t₅;
+        oneLive = one-e s (isLive s c) (λ j. c j .logical) (λ j u. used-below s c r j (live-used s c j u)) t₆;
+        fewLive = leb→le (liveLogs s c) (s .logs) t₇;
       }
 
   pub wellFormed-i : WellFormed s c → T (wellFormed s c)
   unfolding wellFormed W5 W6 W7
   wellFormed-i w =
-      and-i (noneIll && W5 s c && W6 s c) (W7 s c)
-      (and-i (noneIll && W5 s c) (W6 s c)
-      (and-i noneIll (W5 s c)
-      (allBelow-all (s .blocks) (λ j. not (isIll (c j .state))) (λ j h. not-T (isIll (c j .state)) (w .noIll j)))
-      (noTwo-all s same5 (λ i j h t. let q = clash (isUsed (c i .state)) (isUsed (c j .state)) (c i .number) (c j .number) t in
-      let e : i ≡ j = w .numbers i j (q .0) (q .1) (q .2) in omega arith)))
-      (noTwo-all s same6 (λ i j h t. let q = clash (isLive s c i) (isLive s c j) (c i .logical) (c j .logical) t in
-      let e : i ≡ j = w .oneLive i j (q .0) (q .1) (q .2) in omega arith)))
-      (le→leb (liveLogs s c) (s .logs) (w .fewLive))
+      each-chain noneIll (W5 s c ∷ W6 s c ∷ W7 s c ∷ [])
+      (allBelow-all (s .blocks) (λ j. not (isIll (c j .state))) (λ j h. not-T (isIll (c j .state)) (w .noIll j))) (
+        one-i s (λ j. isUsed (c j .state)) (λ j. c j .number) (w .numbers),
+        (one-i s (isLive s c) (λ j. c j .logical) (w .oneLive), (le→leb (liveLogs s c) (s .logs) (w .fewLive), tt)),
+      )
 
 -- ---- the data block and the live log block of l
 
@@ -337,6 +302,18 @@ pub record HasNone (role : ℕ → Bool) (c : Blocks) (l b : ℕ) : Type 0 where
   pub is : b ≡ none
   pub fails : (j : ℕ) → T (role j) → c j .logical ≡ l → ⊥
 
+-- there is one, if b is a block
+pub has-some : {role : ℕ → Bool} {c : Blocks} {l b : ℕ} → Has role c l b ⊎ HasNone role c l b → b ≢ none → Has role c l b
+has-some (inl y) ne = y
+has-some (inr y) ne = absurd (ne (y .is))
+
+module _ (role : ℕ → Bool) (c : Blocks) (l j : ℕ) where
+  has-e : T (role j && eqb (c j .logical) l) → Has role c l j
+  has-e t = let q = chain-each (role j) (eqb (c j .logical) l ∷ []) t in record { passes = q .0; logical = eqb→eq (c j .logical) l (q .1 .0) }
+
+  has-i : Has role c l j → T (role j && eqb (c j .logical) l)
+  has-i q = and-i (role j) (eqb (c j .logical) l) (q .passes) (eq→eqb (c j .logical) l (q .logical))
+
 module _ (s : Shape) (c : Blocks) (r : Records s c) (role : ℕ → Bool) (in-use : (j : ℕ) → T (role j) → T (isUsed (c j .state))) (l : ℕ) where
   abbrev hit : ℕ → Bool
   hit j = role j && eqb (c j .logical) l
@@ -347,15 +324,11 @@ module _ (s : Shape) (c : Blocks) (r : Records s c) (role : ℕ → Bool) (in-us
   the-found : Has role c l the ⊎ HasNone role c l the
   the-found =
       elim (firstBelow-found (s .blocks) hit (omega (arith, r .few))) [
-        | inl q ↦
-            inl (record {
-              passes = and-l (role the) (eqb (c the .logical) l) (q .passes);
-              logical = eqb→eq (c the .logical) l (and-r (role the) (eqb (c the .logical) l) (q .passes));
-            })
+        | inl q ↦ inl (has-e role c l the (q .passes))
         | inr q ↦
             inr (record {
               is = q .is;
-              fails = λ j t e. q .fails j (used-below s c r j (in-use j t)) (and-i (role j) (eqb (c j .logical) l) t (eq→eqb (c j .logical) l e));
+              fails = λ j t e. q .fails j (used-below s c r j (in-use j t)) (has-i role c l j (record { passes = t; logical = e }));
             })
       ]
 
@@ -372,18 +345,7 @@ the-same : (s : Shape) (c c′ : Blocks) (role role′ : ℕ → Bool) (l : ℕ)
 the-same s c c′ role role′ l f g =
     firstBelow-same (s .blocks) (λ j. role′ j && eqb (c′ j .logical) l) (λ j. role j && eqb (c j .logical) l)
     (λ j h. bool-ext (role′ j && eqb (c′ j .logical) l) (role j && eqb (c j .logical) l)
-    (λ t. let q = g j (record {
-      passes = and-l (role′ j) (eqb (c′ j .logical) l) t;
-      logical =
-          eqb→eq (c′ j .logical) l (and-r (role′ j) (eqb (c′ j .logical) l) t);
-    }) in
-    and-i (role j) (eqb (c j .logical) l) (q .passes) (eq→eqb (c j .logical) l (q .logical)))
-    (λ t. let q = f j (record {
-      passes = and-l (role j) (eqb (c j .logical) l) t;
-      logical =
-          eqb→eq (c j .logical) l (and-r (role j) (eqb (c j .logical) l) t);
-    }) in
-    and-i (role′ j) (eqb (c′ j .logical) l) (q .passes) (eq→eqb (c′ j .logical) l (q .logical))))
+    (λ t. has-i role c l j (g j (has-e role′ c′ l j t))) (λ t. has-i role′ c′ l j (f j (has-e role c l j t))))
 
 module _ (s : Shape) (c c′ : Blocks) (l : ℕ) where
   pub dataBlock-same : ((j : ℕ) → Has (isData s c) c l j → Has (isData s c′) c′ l j) → ((j : ℕ) → Has (isData s c′) c′ l j → Has (isData s c) c l j)

@@ -1,4 +1,4 @@
--- Laws of the shape of a card: its limits, the numbers of its pages, and logical pages. Assumes nothing.
+-- Laws of the shape of a card: its limits, the numbers of its pages, and logical pages.
 use mathlib.Core.Path.{_≡_, sym, ap, _∙_}
 use mathlib.Core.Bool.{Bool}
 use mathlib.Core.Logic.{_≢_, _⊎_, inl, inr, ⊎-elim}
@@ -8,7 +8,7 @@ use native.Mathlib.Nat.{div-eq-of-lt, mod-eq-of-lt, mul-add-div-right, mul-add-m
 use native.Mathlib.Omega.{arith}
 use lib.Dec.{T, leb, eqb, leb→le, le→leb, ltb→lt, lt→ltb, eqb→eq}
 use Rattle.rules.specs.declared.shape.Shape.{Shape}
-use Rattle.rules.specs.Shape.{withinLimits, pageNo, blockOf, offsetOf, logicalPage, inRange}
+use Rattle.rules.specs.Shape.{most, withinLimits, pageNo, blockOf, offsetOf, logicalPage, inRange}
 use Rattle.rules.specs.Facts.{Limits, Within}
 use Rattle.rules.proofs.Sizes.{pages-most, block-within, page-within}
 use Rattle.laws.proofs.Tests.{chain-each, each-chain, dec-lt, eq→eqb}
@@ -18,7 +18,7 @@ use Rattle.laws.proofs.Tests.{chain-each, each-chain, dec-lt, eq→eqb}
 -- its tests but the first
 tests : Shape → ℕ → ℕ → List Bool
 tests s bytes spares =
-    leb (s .pages) 32 ∷ leb 3 (s .blocks) ∷ leb (s .blocks) 64 ∷ leb 1 (s .logical) ∷ leb 1 (s .logs)
+    leb (s .pages) 32 ∷ leb 3 (s .blocks) ∷ leb (s .blocks) most ∷ leb 1 (s .logical) ∷ leb 1 (s .logs)
     ∷ eqb bytes (s .blocks * s .pages * 512)
     ∷ eqb spares (s .blocks * s .pages * 16)
     ∷ []

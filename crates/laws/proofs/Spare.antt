@@ -1,4 +1,4 @@
--- Laws of the spare table: what is written there is read back, and is in the table. Assumes nothing.
+-- Laws of the spare table: what is written there is read back, and is in the table.
 use mathlib.Core.Path.{_≡_, refl}
 use mathlib.Core.Bool.{Bool, false, _||_, and-false}
 use mathlib.Core.Logic.{_⊎_, inl, inr, ⊎-elim}

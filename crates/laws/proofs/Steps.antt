@@ -1,4 +1,4 @@
--- One step done to an image: the records and the pages that it leaves. Assumes nothing.
+-- One step done to an image: the records and the pages that it leaves.
 use mathlib.Core.Path.{_≡_, sym, ap, _∙_, subst, fun-ext}
 use mathlib.Core.Logic.{_≢_, inl, inr}
 use mathlib.Core.List.{List}
@@ -6,23 +6,23 @@ use Prim.Native.Nat.{ℕ, _≤_, _<_}
 use native.Mathlib.Omega.{arith}
 use native.Mathlib.Nat.{le-refl}
 use lib.ListN.{length}
-use lib.Dec.{T, T-not}
+use lib.Dec.{T}
 use Rattle.rules.specs.declared.shape.Shape.{Shape}
 use Rattle.rules.specs.declared.page.Page.{Page}
 use Rattle.rules.specs.declared.page.Page.the-variants.{Erased}
 use Rattle.rules.specs.declared.block.State.the-variants.{Free}
 use Rattle.rules.specs.declared.block.Block.{Block}
 use Rattle.rules.specs.Bytes.{all255}
-use Rattle.rules.specs.Spare.{numberLimit, addressIn, spareBytes, inTable}
+use Rattle.rules.specs.Spare.{numberLimit, addressIn, spareBytes}
 use Rattle.rules.specs.Shape.{pageNo}
-use Rattle.rules.specs.Page.{Image, pageBytes, pageSpare, erased, pageOf, pageAt, isErased}
+use Rattle.rules.specs.Page.{Image, pageBytes, pageSpare, erased, pageAt, isErased}
 use Rattle.rules.specs.WellFormed.{notUsed, isGood, isFree, isUsed, isBad, blockAt, blocksOf}
-use Rattle.rules.specs.Steps.{Step, program, erase, stepDone}
+use Rattle.rules.specs.Steps.{Step, erase, stepDone, entryStep}
 use Rattle.rules.specs.Facts.{Fits}
-use Rattle.laws.proofs.Tests.{tcase, false-is, dec-eq}
+use Rattle.laws.proofs.Tests.{false-is, dec-eq}
 use Rattle.laws.proofs.Shape.{pageNo-below, pageNo-block, pageNo-same-block, pageNo-same-place}
 use Rattle.laws.proofs.Spare.{spareBytes-length, spareBytes-address, spareBytes-not-255}
-use Rattle.laws.proofs.Pages.{pageOf-entry, pageOf-junk, Programs, program-fits, program-page, program-other, erase-fits, erase-other}
+use Rattle.laws.proofs.Pages.{pageOf-cases, Programs, program-fits, program-page, program-other, erase-fits, erase-other}
 use Rattle.laws.proofs.Roles.{good-below, used-good, free-good}
 use Rattle.laws.proofs.Records.{blocksOf-at, blocksOf-records}
 use Rattle.laws.proofs.Blocks.{oneMore, Writable, Joins, isGood-good, blockAt-same, blocksOf-same, step-blockAt, erase-blockAt, program-blockAt, free-page, used-blank, ordered-offset, used-number}
@@ -71,20 +71,8 @@ module _ (s : Shape) (im : Image) (w : Fits s im) (b : ℕ) where
 pub pageAt-erased : (im : Image) (p : ℕ) → pageAt im p ≡ Erased → T (erased (pageBytes im p) (pageSpare im p))
 unfolding pageAt
 pageAt-erased im p e =
-    elim (tcase (erased d t)) [ inl u ↦ u | inr u ↦ absurd (subst (λ (q : Page). T (isErased q) → ⊥) e (not-erased (T-not (erased d t) u)) tt) ]
-  where
-    d : List ℕ
-    d = pageBytes im p
-
-    t : List ℕ
-    t = pageSpare im p
-
-    not-erased : (T (erased d t) → ⊥) → T (isErased (pageOf d t)) → ⊥
-    not-erased f u =
-        elim (tcase (inTable t)) [
-          | inl k ↦ subst (λ (q : Page). T (isErased q)) (pageOf-entry d t f k) u
-          | inr k ↦ subst (λ (q : Page). T (isErased q)) (pageOf-junk d t f (T-not (inTable t) k)) u
-        ]
+    pageOf-cases (pageBytes im p) (pageSpare im p) (λ q. T (isErased q) → T (erased (pageBytes im p) (pageSpare im p))) (λ u v. u) (λ f v. absurd v)
+    (λ v. absurd v) (subst (λ (q : Page). T (isErased q)) (sym e) tt)
 
 -- ---- an erase
 
@@ -109,7 +97,7 @@ erase-done s im w b g =
 -- ---- the program of the next page of a block
 
 abbrev pub nextStep : Shape → Image → ℕ → ℕ → ℕ → ℕ → List ℕ → Step
-nextStep s im b n k a d = program (pageNo s b (blocksOf s im b .filled)) d (spareBytes n k a)
+nextStep s im b n k a d = entryStep (pageNo s b (blocksOf s im b .filled)) n k a d
 
 pub record Programmed (s : Shape) (im : Image) (b n k a : ℕ) (d : List ℕ) (im′ : Image) : Type 0 where
   pub fits : Fits s im′

@@ -1,4 +1,4 @@
--- Tests as facts: T b says that the test b passes. Assumes nothing.
+-- Tests as facts: T b says that the test b passes.
 use mathlib.Core.Path.{_≡_, refl, sym, ap, _∙_, subst}
 use mathlib.Core.Logic.{_≢_, _⊎_, inl, inr}
 use mathlib.Core.Bool.{Bool, true, false, not, _&&_, _||_, cond}
@@ -27,11 +27,6 @@ true-is b e = subst T (sym e) tt
 
 pub false-is : (b : Bool) → b ≡ false → T b → ⊥
 false-is b e = subst T e
-
--- by cases, with the value that the test has then
-pub tcase-is : (b : Bool) → (b ≡ true) ⊎ (b ≡ false)
-tcase-is true = inl refl
-tcase-is false = inr refl
 
 -- tests that pass together are equal
 pub bool-ext : (a b : Bool) → (T a → T b) → (T b → T a) → a ≡ b

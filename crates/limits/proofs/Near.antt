@@ -1,4 +1,4 @@
--- Histories that come near the limits of demand 3, computed; and "those writes" of the second limit are all n. Assumes nothing.
+-- Histories that come near the limits of demand 3, computed; and "those writes" of the second limit are all n.
 --
 -- A card just formatted has no log block and no data block: its first write merges nothing, and its first merges erase one block and not two. So
 -- `turns` stays 4 below the first limit, and `merges` 1 below the second.
@@ -7,16 +7,10 @@ use mathlib.Core.Bool.{_&&_, cond}
 use mathlib.Core.List.{List, [], _∷_, map}
 use Prim.Native.Nat.{ℕ, _*_}
 use lib.ListN.{replicate}
-use Rattle.rules.specs.Below.{allBelow, countBelow, highestBelow, firstBelow, lowestBelow, pickBelow, listBelow}
-use Rattle.rules.specs.Bytes.{all255, replaced}
-use Rattle.rules.specs.Spare.{inTable, spareBytes}
-use Rattle.rules.specs.Shape.{withinLimits}
-use Rattle.rules.specs.Page.{Image, erased, pageOf, pageAt}
-use Rattle.rules.specs.WellFormed.{W1, W2, W3, W4, W1to4, goodBlock, isBad, pagesOf, blockAt, blocksOf, W5, isComplete, dataNumber, isData, isLive, W6, isObsolete, dataBlock, liveLog, liveLogs, W7, wellFormed}
-use Rattle.rules.specs.Content.{newest, inLog, inData, holder, content}
-use Rattle.rules.specs.Steps.{stepDone, stepsDone, taken, highest, formatList, powerUpList, copies, mergeList, victim, writeCase, ownStep, eraseAfter, ownList, writeList}
-use Rattle.rules.specs.Replies.{number, programsOf, erasesOf, shapeFor, goodBlocks, formatRefusal, powerUpRefusal, writeRefusal, formatReply, powerUpReply, writeReply}
-use Rattle.history.specs.History.{Command, write, powerUp, Event, History, events, isWrite, pageOfWrite, howMany, counted, wasCut, erasesIn, happened, ownDone}
+use Rattle.rules.specs.Page.{Image}
+use Rattle.rules.specs.Computing.{computing}
+use Rattle.rules.specs.Replies.{number, programsOf, erasesOf, shapeFor, formatReply}
+use Rattle.history.specs.History.{Command, write, powerUp, Event, History, events, isWrite, pageOfWrite, howMany, doneOrCut, wasCut, erasesIn, happened, ownDone}
 
 -- ---- histories on an erased card of B blocks
 
@@ -46,15 +40,11 @@ row e =
 
 -- erases, n and c; then a row for each command
 abbrev table : List Event → List (List ℕ)
-table es = (erasesIn es ∷ howMany counted es ∷ howMany wasCut es ∷ []) ∷ map row es
+table es = (erasesIn es ∷ howMany doneOrCut es ∷ howMany wasCut es ∷ []) ∷ map row es
 
 -- with all that it computes by
 computed : History → List (List ℕ)
-unfolding formatReply formatRefusal formatList powerUpReply powerUpRefusal powerUpList writeReply writeRefusal withinLimits goodBlocks
-    blocksOf blockAt isBad pagesOf goodBlock W1 W2 W3 W4 W1to4 W5 W6 W7 isComplete dataNumber isData isLive isObsolete dataBlock liveLog liveLogs
-    wellFormed newest inLog inData holder content stepDone stepsDone taken highest copies mergeList victim writeCase ownStep eraseAfter ownList
-    writeList spareBytes replaced highestBelow firstBelow lowestBelow pageAt pageOf erased inTable all255 allBelow countBelow pickBelow listBelow
-    happened ownDone
+unfolding computing happened ownDone
 computed h = table (events h)
 
 -- ---- 2n, and the limits of one write

@@ -3,6 +3,7 @@ ghost use mathlib.Core.Path.{_≡_};
 ghost use Prim.Native.Nat.{_<_};
 ghost use lib.ListN.{length};
 ghost use Rattle.rules.specs.Spare.{numberIn, addressIn, inTable, spareBytes};
+ghost use Rattle.rules.specs.WellFormed.{badMark};
 use super::bytes::all_255;
 use rules::page::COPY;
 use rules::page::LOG;
@@ -33,6 +34,14 @@ pub fn address_in(t: &[u8]) -> u16
     ensures { λ r. ⌜ r ≡ addressIn (now (t .entry)) ⌝ }
 {
     wide16(t[6]) + wide16(t[7]) * 256
+}
+
+// Whether they carry the mark of a bad block.
+pub fn bad_mark(t: &[u8]) -> bool
+    requires { ⌜ length (now t) ≡ 16 ⌝ }
+    ensures { λ r. ⌜ r ≡ badMark (now (t .entry)) ⌝ }
+{
+    t[5] != 255
 }
 
 // Whether these are bytes of the table.

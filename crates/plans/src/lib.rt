@@ -1,4 +1,3 @@
-// A write: its plan, from the records, and the steps of the plan.
+// The plan of a write, from the records.
 
-pub mod carry;
 pub mod plan;

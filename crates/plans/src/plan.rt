@@ -1,20 +1,21 @@
 // The plan of a write: what it needs, which blocks, which numbers.
 ghost use mathlib.Core.Path.{_≡_};
 ghost use mathlib.Core.Bool.{cond};
-ghost use Prim.Native.Nat.{_≤_, _<_};
+ghost use Prim.Native.Nat.{_<_};
 ghost use Rattle.rules.specs.Below.{none};
-ghost use Rattle.rules.specs.WellFormed.{blocksIn};
+ghost use Rattle.rules.specs.Shape.{most};
 ghost use Rattle.rules.specs.Steps.{victim};
 ghost use Rattle.rules.specs.Facts.{Limits};
 ghost use Rattle.laws.specs.Foreseen.{freeThen};
-ghost use Rattle.roles.specs.Passes.{Numbers, census};
-ghost use Rattle.plans.specs.Plans.{roomPlan, freshPlan, freeAfter, mergePlan, planOf};
-use blocks::record;
+ghost use Rattle.words.specs.Words.{recordsIn};
+ghost use Rattle.roles.specs.Passes.{Recorded, Numbers, census, seats};
+ghost use Rattle.plans.specs.Plans.{unmerged, roomPlan, freeAfter, mergePlan, planOf};
 use roles::census::Census;
 use roles::role;
 use roles::seats;
+use roles::seats::Seats;
 use rules::block::Block;
-use rules::block::State;
+use rules::shape::MOST;
 use rules::shape::Shape;
 use rules::test;
 
@@ -25,7 +26,7 @@ pub struct Plan {
     pub merged: usize,
     pub into: usize,
     pub log: usize,
-    pub base: usize,
+    pub data: usize,
     // the block that gets the page, its place there, and the number to which `needed` is added
     pub block: usize,
     pub place: usize,
@@ -35,13 +36,14 @@ pub struct Plan {
 }
 
 // The record of block b; what is no block counts as bad.
-fn record_at(list: [Block; 64], b: usize) -> Block
-    ensures { λ r. ⌜ r ≡ blocksIn list b ⌝ }
+fn record_at(s: Shape, list: &[u64; MOST], b: usize) -> Block
+    requires { ⌜ Recorded s (recordsIn (now list)) ⌝ }
+    ensures { λ r. ⌜ r ≡ recordsIn (now (list .entry)) b ⌝ }
 {
-    if b < 64 {
-        return list[b];
+    if b < MOST {
+        return words::unpack(list[b]);
     }
-    record::not_used(State::Bad)
+    words::unpack(0)
 }
 
 fn block_if(passes: bool, b: usize) -> usize
@@ -50,59 +52,48 @@ fn block_if(passes: bool, b: usize) -> usize
     if passes { b } else { role::NONE }
 }
 
-// Room in log block v: its next page.
-fn append(s: Shape, list: [Block; 64], v: usize, a: usize, base: usize) -> Plan
-    requires { ⌜ Limits s ⌝ }
-    ensures { λ r. ⌜ r ≡ roomPlan s (blocksIn list) v a base ⌝ }
+// No merge comes first.
+fn unmerged(needed: u32, block: usize, place: usize, number: u32, former: usize) -> Plan
+    ensures { λ r. ⌜ r ≡ unmerged needed block place number former ⌝ }
 {
-    let pages = s.pages;
-    let x = record_at(list, v);
-    let filled = x.filled as usize;
-    let last = test::and(a % pages == filled, filled + 1 == pages);
     Plan {
-        needed: 0,
+        needed,
         merged: 0,
         into: role::NONE,
         log: role::NONE,
-        base: role::NONE,
-        block: v,
-        place: filled,
-        number: x.number,
-        former: block_if(test::and(x.ordered, last), base),
+        data: role::NONE,
+        block,
+        place,
+        number,
+        former,
     }
 }
 
-// A block is taken as log.
-fn fresh(s: Shape, list: [Block; 64], t: Census) -> Plan
-    requires { ⌜ t ≡ census s (blocksIn list) ⌝ }
-    ensures { λ r. ⌜ r ≡ freshPlan s (blocksIn list) ⌝ }
+// Room in log block v with record x: its next page. d is the data block.
+fn append(s: Shape, x: Block, v: usize, d: usize, a: usize) -> Plan
+    requires { ⌜ Limits s ⌝ }
+    ensures { λ r. ⌜ r ≡ roomPlan s x v d a ⌝ }
 {
-    Plan {
-        needed: 1,
-        merged: 0,
-        into: role::NONE,
-        log: role::NONE,
-        base: role::NONE,
-        block: t.free,
-        place: 0,
-        number: t.highest,
-        former: role::NONE,
-    }
+    let pages = s.pages;
+    let place = x.filled as usize;
+    let ordered = test::and(x.ordered, a % pages == place);
+    let completes = test::and(place + 1 == pages, ordered);
+    unmerged(0, v, place, x.number, block_if(completes, d))
 }
 
 // Whether block j is free after a merge into f that erases v and d.
-fn free_then(list: [Block; 64], f: usize, v: usize, d: usize, j: usize) -> bool
-    requires { ⌜ j < 64 ⌝ }
-    ensures { λ r. ⌜ r ≡ freeThen (blocksIn list) f v d j ⌝ }
+fn free_then(list: &[u64; MOST], f: usize, v: usize, d: usize, j: usize) -> bool
+    requires { ⌜ j < most ⌝ }
+    ensures { λ r. ⌜ r ≡ freeThen (recordsIn (now (list .entry))) f v d j ⌝ }
 {
-    let x = list[j];
+    let x = words::unpack(list[j]);
     let state = x.state;
-    test::and(j != f, test::or(test::or(state.is_free(), j == v), j == d))
+    test::and(j != f, test::or(test::or(j == v, j == d), state.is_free()))
 }
 
-fn free_after(s: Shape, list: [Block; 64], f: usize, v: usize, d: usize) -> usize
-    requires { ⌜ s .blocks ≤ 64 ⌝ }
-    ensures { λ r. ⌜ r ≡ freeAfter s (blocksIn list) f v d ⌝ }
+fn free_after(s: Shape, list: &[u64; MOST], f: usize, v: usize, d: usize) -> usize
+    requires { ⌜ Limits s ⌝ }
+    ensures { λ r. ⌜ r ≡ freeAfter s (recordsIn (now (list .entry))) f v d ⌝ }
 {
     let blocks = s.blocks;
     let mut first = role::NONE;
@@ -114,20 +105,19 @@ fn free_after(s: Shape, list: [Block; 64], f: usize, v: usize, d: usize) -> usiz
     first
 }
 
-// Logical block l is merged first.
-fn merge_first(s: Shape, list: [Block; 64], ds: [u32; 64], t: Census, l: usize) -> Plan
-    requires { ⌜ (s .blocks ≤ 64) × Numbers s (blocksIn list) ds × (t ≡ census s (blocksIn list)) ⌝ }
-    ensures { λ r. ⌜ r ≡ mergePlan s (blocksIn list) l ⌝ }
+// Logical block l is merged first; q are its blocks.
+fn merge_first(s: Shape, list: &[u64; MOST], t: Census, l: usize, q: Seats) -> Plan
+    requires { ⌜ Limits s × (t ≡ census s (recordsIn (now list))) × (q ≡ seats s (recordsIn (now list)) l) ⌝ }
+    ensures { λ r. ⌜ r ≡ mergePlan s (recordsIn (now (list .entry))) l ⌝ }
 {
-    let q = seats::of(s, list, ds, l);
     let into = t.free;
     Plan {
         needed: 2,
         merged: l,
         into,
         log: q.log,
-        base: q.base,
-        block: free_after(s, list, into, q.log, q.base),
+        data: q.data,
+        block: free_after(s, list, into, q.log, q.data),
         place: 0,
         number: t.highest,
         former: role::NONE,
@@ -135,31 +125,37 @@ fn merge_first(s: Shape, list: [Block; 64], ds: [u32; 64], t: Census, l: usize) 
 }
 
 // The logical block of the live log block with the lowest number.
-fn oldest(s: Shape, list: [Block; 64], t: Census) -> usize
-    requires { ⌜ t ≡ census s (blocksIn list) ⌝ }
-    ensures { λ r. ⌜ r ≡ victim s (blocksIn list) ⌝ }
+fn oldest(s: Shape, list: &[u64; MOST], t: Census) -> usize
+    requires { ⌜ Recorded s (recordsIn (now list)) × (t ≡ census s (recordsIn (now list))) ⌝ }
+    ensures { λ r. ⌜ r ≡ victim s (recordsIn (now (list .entry))) ⌝ }
 {
-    let x = record_at(list, t.eldest);
+    let x = record_at(s, list, t.eldest);
     x.logical as usize
 }
 
-pub fn of(s: Shape, list: [Block; 64], ds: [u32; 64], t: Census, a: usize) -> Plan
-    requires { ⌜ Limits s × Numbers s (blocksIn list) ds × (t ≡ census s (blocksIn list)) ⌝ }
-    ensures { λ r. ⌜ r ≡ planOf s (blocksIn list) a ⌝ }
+pub fn of<'a>(
+    s: Shape,
+    list: &'a [u64; MOST],
+    numbers: &'a [u32; MOST],
+    t: Census,
+    a: usize,
+) -> Plan
+    requires { ⌜ Limits s × Numbers s (recordsIn (now list)) (now numbers) × (t ≡ census s (recordsIn (now list))) ⌝ }
+    ensures { λ r. ⌜ r ≡ planOf s (recordsIn (now (list .entry))) a ⌝ }
 {
     let pages = s.pages;
     let l = a / pages;
-    let q = seats::of(s, list, ds, l);
-    let v = q.log;
-    if v != role::NONE {
-        let x = record_at(list, v);
+    let q = seats::of(s, list, numbers, l);
+    if q.log != role::NONE {
+        let x = record_at(s, list, q.log);
         if (x.filled as usize) < pages {
-            return append(s, list, v, a, q.base);
+            return append(s, x, q.log, q.data, a);
         }
-        return merge_first(s, list, ds, t, l);
+        return merge_first(s, list, t, l, q);
     }
     if t.live < s.logs {
-        return fresh(s, list, t);
+        return unmerged(1, t.free, 0, t.highest, role::NONE);
     }
-    merge_first(s, list, ds, t, oldest(s, list, t))
+    let m = oldest(s, list, t);
+    merge_first(s, list, t, m, seats::of(s, list, numbers, m))
 }

@@ -1,21 +1,23 @@
 // W5 to W7: what no two blocks may have in common, and all rules together.
 ghost use mathlib.Core.Path.{_≡_};
-ghost use mathlib.Core.Bool.{_&&_};
+ghost use mathlib.Core.Bool.{false, not};
 ghost use Prim.Native.Nat.{_≤_, _<_};
-ghost use lib.Dec.{eqb};
+ghost use lib.ListN.{replicate};
 ghost use Rattle.rules.specs.Below.{allBelow};
-ghost use Rattle.rules.specs.WellFormed.{blocksIn, isUsed, W5, W6, wellFormed};
-ghost use Rattle.refusals.specs.Clashes.{apart};
-ghost use Rattle.roles.specs.Passes.{Numbers, census, isLiveBy};
+ghost use Rattle.rules.specs.Shape.{most};
+ghost use Rattle.rules.specs.WellFormed.{W5, W6, wellFormed};
+ghost use Rattle.words.specs.Words.{recordsIn};
+ghost use Rattle.roles.specs.Passes.{Numbers, census};
+ghost use Rattle.refusals.specs.Clashes.{oneNumber};
 use roles::census::Census;
 use roles::role;
 use rules::block::Block;
+use rules::shape::MOST;
 use rules::shape::Shape;
 use rules::test;
 
-// Two records with one number (W5).
 fn one_number(x: Block, y: Block) -> bool
-    ensures { λ r. ⌜ r ≡ (isUsed (x .state) && isUsed (y .state) && eqb (x .number) (y .number)) ⌝ }
+    ensures { λ r. ⌜ r ≡ oneNumber x y ⌝ }
 {
     let here = x.state;
     let there = y.state;
@@ -25,51 +27,76 @@ fn one_number(x: Block, y: Block) -> bool
     )
 }
 
-// Two live log blocks of one logical block (W6).
-fn two_logs(s: Shape, x: Block, d: u32, y: Block, e: u32) -> bool
-    ensures { λ r. ⌜ r ≡ (isLiveBy s x d && isLiveBy s y e && eqb (x .logical) (y .logical)) ⌝ }
+// Whether block i has another number than each block below it.
+fn apart_below(list: &[u64; MOST], i: usize) -> bool
+    requires { ⌜ i < most ⌝ }
+    ensures { λ r. ⌜ r ≡ allBelow i (λ j. not (oneNumber (recordsIn (now (list .entry)) i) (recordsIn (now (list .entry)) j))) ⌝ }
 {
-    let live = test::and(role::is_live(s, x, d), role::is_live(s, y, e));
-    test::and(live, x.logical == y.logical)
-}
-
-// Whether block i is apart from each block below it.
-fn apart_below(s: Shape, list: [Block; 64], ds: [u32; 64], i: usize) -> bool
-    requires { ⌜ (s .blocks ≤ 64) × (i < s .blocks) × Numbers s (blocksIn list) ds ⌝ }
-    ensures { λ r. ⌜ r ≡ allBelow i (apart s (blocksIn list) i) ⌝ }
-{
-    let x = list[i];
-    let d = ds[i];
+    let x = words::unpack(list[i]);
     let mut all = true;
     let mut j = 0;
     while j < i {
-        let y = list[j];
-        let e = ds[j];
-        all = test::and(all, test::and(!one_number(x, y), !two_logs(s, x, d, y, e)));
+        let y = words::unpack(list[j]);
+        all = test::and(all, !one_number(x, y));
         j += 1;
     }
     all
 }
 
-pub fn all_apart(s: Shape, list: [Block; 64], ds: [u32; 64]) -> bool
-    requires { ⌜ (s .blocks ≤ 64) × Numbers s (blocksIn list) ds ⌝ }
-    ensures { λ r. ⌜ r ≡ (W5 s (blocksIn list) && W6 s (blocksIn list)) ⌝ }
+// W5, by pairs.
+fn numbers_apart(s: Shape, list: &[u64; MOST]) -> bool
+    requires { ⌜ s .blocks ≤ most ⌝ }
+    ensures { λ r. ⌜ r ≡ W5 s (recordsIn (now (list .entry))) ⌝ }
 {
     let blocks = s.blocks;
     let mut all = true;
     let mut i = 0;
     while i < blocks {
-        all = test::and(all, apart_below(s, list, ds, i));
+        all = test::and(all, apart_below(list, i));
         i += 1;
     }
     all
 }
 
-// W1 to W7, by the census of the records.
-pub fn is_well_formed(s: Shape, list: [Block; 64], ds: [u32; 64], t: Census) -> bool
-    requires { ⌜ (s .blocks ≤ 64) × Numbers s (blocksIn list) ds × (t ≡ census s (blocksIn list)) ⌝ }
-    ensures { λ r. ⌜ r ≡ wellFormed s (blocksIn list) ⌝ }
+fn room() -> [bool; MOST]
+    ensures { λ r. ⌜ r ≡ replicate most false ⌝ }
 {
-    let pairs = all_apart(s, list, ds);
-    test::and(test::and(t.sound, pairs), t.live <= s.logs)
+    [false; MOST]
+}
+
+// W6, in one pass: `taken` says of which logical blocks a live log block was met.
+fn logs_apart<'a>(s: Shape, list: &'a [u64; MOST], numbers: &'a [u32; MOST]) -> bool
+    requires { ⌜ Numbers s (recordsIn (now list)) (now numbers) ⌝ }
+    ensures { λ r. ⌜ r ≡ W6 s (recordsIn (now (list .entry))) ⌝ }
+{
+    let blocks = s.blocks;
+    let mut taken = room();
+    let mut all = true;
+    let mut i = 0;
+    while i < blocks {
+        let x = words::unpack(list[i]);
+        let at = x.logical as usize;
+        let d = numbers[at];
+        let live = role::is_live(s, x, d);
+        let had = taken[at];
+        all = test::and(all, !test::and(live, had));
+        taken[at] = test::or(had, live);
+        i += 1;
+    }
+    all
+}
+
+// W1 to W7, by the census t of the records.
+pub fn is_well_formed<'a>(
+    s: Shape,
+    list: &'a [u64; MOST],
+    numbers: &'a [u32; MOST],
+    t: Census,
+) -> bool
+    requires { ⌜ Numbers s (recordsIn (now list)) (now numbers) × (t ≡ census s (recordsIn (now list))) ⌝ }
+    ensures { λ r. ⌜ r ≡ wellFormed s (recordsIn (now (list .entry))) ⌝ }
+{
+    let first = test::and(t.sound, numbers_apart(s, list));
+    let both = test::and(first, logs_apart(s, list, numbers));
+    test::and(both, t.live <= s.logs)
 }

@@ -1,21 +1,18 @@
 // The refusals: the lowest number that applies, 0 for none.
 ghost use mathlib.Core.Path.{_≡_};
-ghost use Prim.Native.Nat.{_≤_, _*_};
+ghost use Prim.Native.Nat.{_*_};
 ghost use lib.Dec.{eqb};
-ghost use Rattle.rules.specs.WellFormed.{blocksIn};
-ghost use Rattle.roles.specs.Passes.{Numbers, census};
-ghost use Rattle.refusals.specs.Orders.{callRefusal, cardRefusal, lateRefusal};
+ghost use Rattle.refusals.specs.Orders.{callRefusal, lateRefusal};
 use roles::census::Census;
-use rules::block::Block;
 use rules::page::NUMBER_LIMIT;
 use rules::shape::Shape;
 use rules::test;
 
 pub mod clash;
 
-// 1 to 3: what the call itself shows. `sized` says that what is lent has the length asked.
-pub fn of_call(s: Shape, bytes: usize, spares: usize, sized: bool, a: usize) -> u8
-    ensures { λ r. ⌜ r ≡ callRefusal s bytes spares sized a ⌝ }
+// 1 to 3: what the call itself shows. `sized` says that what is lent has the length asked, `ranged` that the logical page is in range.
+pub fn of_call(s: Shape, bytes: usize, spares: usize, sized: bool, ranged: bool) -> u8
+    ensures { λ r. ⌜ r ≡ callRefusal s bytes spares sized ranged ⌝ }
 {
     if !s.within(bytes, spares) {
         return 1;
@@ -23,22 +20,8 @@ pub fn of_call(s: Shape, bytes: usize, spares: usize, sized: bool, a: usize) -> 
     if !sized {
         return 2;
     }
-    if !s.in_range(a) {
+    if !ranged {
         return 3;
-    }
-    0
-}
-
-// 4 and 5: what the records show.
-pub fn of_card(s: Shape, list: [Block; 64], ds: [u32; 64], t: Census) -> u8
-    requires { ⌜ (s .blocks ≤ 64) × Numbers s (blocksIn list) ds × (t ≡ census s (blocksIn list)) ⌝ }
-    ensures { λ r. ⌜ r ≡ cardRefusal s (blocksIn list) ⌝ }
-{
-    if s.short_of(t.good) {
-        return 4;
-    }
-    if !clash::is_well_formed(s, list, ds, t) {
-        return 5;
     }
     0
 }

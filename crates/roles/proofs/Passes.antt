@@ -1,55 +1,114 @@
--- Laws of the passes over the records. Assumes nothing.
-use mathlib.Core.Path.{_≡_, refl, ap, _∙_}
-use mathlib.Core.Bool.{Bool, true, false, not, _&&_, _||_, cond}
+-- Laws of the passes over the records.
+use mathlib.Core.Path.{_≡_, refl, sym, ap, _∙_}
+use mathlib.Core.Logic.{inl, inr}
+use mathlib.Core.Bool.{Bool, true, false, not, _&&_, _||_, cond, and-true, and-false}
 use mathlib.Core.List.{List}
-use Prim.Native.Nat.{ℕ, _+_, _≤_, max}
+use Prim.Native.Nat.{ℕ, _+_, _≤_, _<_, max}
+use native.Mathlib.Nat.{max-zero}
 use native.Mathlib.Omega.{arith}
 use lib.Dec.{ltb, eqb}
-use lib.ListN.{length, List·getD-eq-default}
+use lib.ListN.{length, getD, set, replicate, length-set, length-replicate, getD-replicate}
+use lib.Seq.{getD-set-same, getD-set-other}
+use borrow.Author.Tests.{eq-eqb, ne-eqb}
 use Rattle.rules.specs.declared.shape.Shape.{Shape}
-use Rattle.rules.specs.declared.block.State.the-variants.{Bad}
 use Rattle.rules.specs.declared.block.Block.{Block}
 use Rattle.rules.specs.Below.{none, isNone, orNone, allBelow, countBelow, highestBelow, firstBelow, lowestBelow}
-use Rattle.rules.specs.WellFormed.{Blocks, blocksIn, notUsed, isGood, isFree, isIll, dataNumber, isData, isLive, isObsolete}
-use Rattle.laws.proofs.Arrays.{stored-one}
-use Rattle.laws.proofs.Below.{countBelow-most, allBelow-more, countBelow-more, highestBelow-more, firstBelow-more, lowestBelow-more}
+use Rattle.rules.specs.WellFormed.{Blocks, isGood, isFree, isIll, isComplete, completeNumber, dataNumber, isData, isLive, isObsolete, isDataBy, isLiveBy, isObsoleteBy}
+use Rattle.laws.proofs.Tests.{dec-eq}
+use Rattle.laws.proofs.Below.{listBelow-at, listBelow-ext, countBelow-most, allBelow-more, countBelow-more, highestBelow-more, firstBelow-more, lowestBelow-more}
 use Rattle.roles.specs.declared.census.Census.{Census}
 use Rattle.roles.specs.declared.seats.Seats.{Seats}
-use Rattle.roles.specs.Passes.{Numbers, isDataBy, isLiveBy, isObsoleteBy, completeNumber, eldestTo, censusTo, seatsTo}
-use Rattle.roles.specs.Counted.{isEldest, counted}
+use Rattle.rules.specs.Shape.{most}
+use Rattle.roles.specs.Passes.{Recorded, Numbers, goodTo, eldestTo, censusTo, seatsTo}
+use Rattle.roles.specs.Counted.{noneCounted, isEldest, counted}
 
--- ---- a record of the array
---
--- What stands past the end of an array is all zeros, which is the record of a bad block: an element that is read is `blocksIn list j`.
+-- ---- good blocks
 
--- no block has the record of a bad one
-pub blocksIn-none : (list : List Block) → length list ≡ 64 → blocksIn list none ≡ notUsed Bad
-blocksIn-none list e = List·getD-eq-default list (notUsed Bad) (omega arith)
+pub good-none : (c : Blocks) → 0 ≡ goodTo c 0
+unfolding countBelow
+good-none c = refl
+
+pub good-few : (c : Blocks) (j : ℕ) {n : ℕ} → n ≡ goodTo c j → n ≤ j
+good-few c j e = omega (arith, countBelow-most j (λ i. isGood (c i .state)))
+
+pub good-turn : (c : Blocks) (j : ℕ) {x : Block} {g : Bool} {n m : ℕ} → x ≡ c j → n ≡ goodTo c j → g ≡ isGood (x .state) → m ≡ cond g 1 0
+    → n + m ≡ goodTo c (j + 1)
+good-turn c j same e f h = rw (h, f, same, e) (sym (countBelow-more j (λ i. isGood (c i .state))))
 
 -- ---- data numbers
 
-pub dataNumber-none : (s : Shape) (c : Blocks) (l : ℕ) → 0 ≡ highestBelow 0 (λ i. completeNumber s (c i) l)
+-- of each logical block, of the first j records
+pub record NumbersTo (s : Shape) (c : Blocks) (numbers : List ℕ) (j : ℕ) : Type 0 where
+  pub long : length numbers ≡ most
+  pub at : (l : ℕ) → l < most → getD numbers l 0 ≡ highestBelow j (λ i. completeNumber s (c i) l)
+
+pub numbers-none : (s : Shape) (c : Blocks) {numbers : List ℕ} → numbers ≡ replicate most 0 → NumbersTo s c numbers 0
 unfolding highestBelow
-dataNumber-none s c l = refl
+numbers-none s c e =
+    record { long = ap length e ∙ length-replicate {A = ℕ} most 0; at = λ l h. ap (λ (k : List ℕ). getD k l 0) e ∙ getD-replicate {A = ℕ} most l 0 0 h }
 
-pub dataNumber-all : (s : Shape) (c : Blocks) (l : ℕ) → highestBelow (s .blocks) (λ i. completeNumber s (c i) l) ≡ dataNumber s c l
+module _ (s : Shape) (c : Blocks) (j : ℕ) {x : Block} (same : x ≡ c j) where
+  abbrev numbersAt : ℕ → ℕ → ℕ
+  numbersAt l i = completeNumber s (c i) l
+
+  -- record j counts for its own logical block
+  own-number : {p : Bool} {n : ℕ} → p ≡ isComplete s x → n ≡ cond p (x .number) 0 → n ≡ completeNumber s (c j) (x .logical)
+  own-number e f = rw (f, e, ← same, eq-eqb (x .logical) (x .logical) refl, and-true) refl
+
+  -- and for no other
+  other-number : (l : ℕ) → (l ≡ x .logical → ⊥) → completeNumber s (c j) l ≡ 0
+  other-number l h = rw (← same, ne-eqb (x .logical) l (λ e. h (sym e)), and-false) refl
+
+  pub numbers-turn : {numbers : List ℕ} {p : Bool} {n m : ℕ} → x .logical < most → NumbersTo s c numbers j → p ≡ isComplete s x → n ≡ cond p (x .number) 0
+      → m ≡ max (getD numbers (x .logical) 0) n → NumbersTo s c (set numbers (x .logical) m) (j + 1)
+  numbers-turn {numbers} {p} {n} {m} h t e f g =
+      record {
+        long = length-set numbers (x .logical) m ∙ t .long;
+        at = λ l k. elim (dec-eq l (x .logical)) [
+          | inl q ↦
+              rw q (getD-set-same numbers (x .logical) m 0 (omega (arith, t .long)) ∙ g
+              ∙ rw (t .at (x .logical) h, own-number e f) (sym (highestBelow-more j (numbersAt (x .logical)))))
+          | inr q ↦
+              getD-set-other numbers (x .logical) l m 0 q ∙ t .at l k ∙ rw (highestBelow-more j (numbersAt l), other-number l q, max-zero) refl
+        ];
+      }
+
+pub numbers-all : {s : Shape} {c : Blocks} {numbers : List ℕ} {j : ℕ} → Recorded s c → j ≡ s .blocks → NumbersTo s c numbers j → Numbers s c numbers
 unfolding dataNumber
-dataNumber-all s c l = refl
+numbers-all {s} {c} r e t =
+    record {
+      recorded = r;
+      numbers-are = listBelow-ext most (dataNumber s c) 0 (t .long)
+          (λ l h. t .at l h ∙ ap (λ (i : ℕ). highestBelow i (λ k. completeNumber s (c k) l)) e);
+    }
 
--- ---- the role of block j, by its record and the number d of its logical block's data block
+pub small-at : {s : Shape} {c : Blocks} → Recorded s c → (j : ℕ) {x : Block} → x ≡ c j → x .logical < most
+small-at r j e = rw e (r .small j)
 
-module _ (s : Shape) (c : Blocks) (j : ℕ) {d : ℕ} {b : Bool} (number : d ≡ dataNumber s c (c j .logical)) where
-  pub isData-by : b ≡ isDataBy s (c j) d → b ≡ isData s c j
+-- the number of record j's logical block
+pub number-at : {s : Shape} {c : Blocks} {numbers : List ℕ} → Numbers s c numbers → (j : ℕ) {x : Block} → x ≡ c j
+    → (x .logical < most) × (getD numbers (x .logical) 0 ≡ dataNumber s c (c j .logical))
+number-at {s} {c} {numbers} t j {x} e =
+    let h : x .logical < most = small-at (t .recorded) j e in (
+      h,
+      ap (λ (k : List ℕ). getD k (x .logical) 0) (t .numbers-are) ∙ listBelow-at most (dataNumber s c) (x .logical) 0 h
+          ∙ ap (λ (y : Block). dataNumber s c (y .logical)) e,
+    )
+
+-- ---- the role of block j, by its record x and the number d of its logical block's data block
+
+module _ (s : Shape) (c : Blocks) (j : ℕ) {x : Block} {d : ℕ} {b : Bool} (same : x ≡ c j) (number : d ≡ dataNumber s c (c j .logical)) where
+  pub isData-by : b ≡ isDataBy s x d → b ≡ isData s c j
   unfolding isData
-  isData-by e = e ∙ ap (isDataBy s (c j)) number
+  isData-by e = e ∙ ap (λ (y : Block). isDataBy s y d) same ∙ ap (isDataBy s (c j)) number
 
-  pub isLive-by : b ≡ isLiveBy s (c j) d → b ≡ isLive s c j
+  pub isLive-by : b ≡ isLiveBy s x d → b ≡ isLive s c j
   unfolding isLive
-  isLive-by e = e ∙ ap (isLiveBy s (c j)) number
+  isLive-by e = e ∙ ap (λ (y : Block). isLiveBy s y d) same ∙ ap (isLiveBy s (c j)) number
 
-  pub isObsolete-by : b ≡ isObsoleteBy s (c j) d → b ≡ isObsolete s c j
+  pub isObsolete-by : b ≡ isObsoleteBy s x d → b ≡ isObsolete s c j
   unfolding isObsolete isData isLive
-  isObsolete-by e = e ∙ ap (isObsoleteBy s (c j)) number
+  isObsolete-by e = e ∙ ap (λ (y : Block). isObsoleteBy s y d) same ∙ ap (isObsoleteBy s (c j)) number
 
 -- ---- the census
 
@@ -74,9 +133,8 @@ module _ (s : Shape) (c : Blocks) where
   pub censusTo-more : (j : ℕ) → counted s (censusTo s c j) j (c j) (dataNumber s c (c j .logical)) ≡ censusTo s c (j + 1)
   unfolding counted censusTo
   censusTo-more j =
-      let live : isLiveBy s (c j) (dataNumber s c (c j .logical)) ≡ isLive s c j = isLive-by s c j refl refl in
-      let old : isObsoleteBy s (c j) (dataNumber s c (c j .logical)) ≡ isObsolete s c j = isObsolete-by s c j refl refl in
-      let a1 = countBelow-more j (λ i. isGood (c i .state)) in
+      let live : isLiveBy s (c j) (dataNumber s c (c j .logical)) ≡ isLive s c j = isLive-by s c j {x = c j} refl refl refl in
+      let old : isObsoleteBy s (c j) (dataNumber s c (c j .logical)) ≡ isObsolete s c j = isObsolete-by s c j {x = c j} refl refl refl in
       let a2 = allBelow-more j (λ i. not (isIll (c i .state))) in
       let a3 = countBelow-more j (isLive s c) in
       let a4 = allBelow-more j (λ i. not (isObsolete s c i)) in
@@ -89,15 +147,11 @@ module _ (s : Shape) (c : Blocks) where
       ∙ cond-number (isLive s c j && (isNone (eldestTo s c j) || ltb (c j .number) (c (eldestTo s c j) .number))) c j (eldestTo s c j) in
       cc
 
-  pub censusTo-few : (j : ℕ) {t : Census} → t ≡ censusTo s c j → (t .good ≤ j) × (t .live ≤ j)
+  pub censusTo-few : (j : ℕ) {t : Census} → t ≡ censusTo s c j → t .live ≤ j
   unfolding censusTo
-  censusTo-few j e = (
-    omega (arith, ap (λ (u : Census). u .good) e, countBelow-most j (λ i. isGood (c i .state))),
-    omega (arith, ap (λ (u : Census). u .live) e, countBelow-most j (isLive s c)),
-  )
+  censusTo-few j e = omega (arith, ap (λ (u : Census). u .live) e, countBelow-most j (isLive s c))
 
-  pub censusTo-none : c none .number ≡ 0
-      → _≡_ {A = Census} (record { good = 0; sound = true; live = 0; recovered = true; highest = 0; free = none; eldest = none; low = 0 }) (censusTo s c 0)
+  pub censusTo-none : c none .number ≡ 0 → noneCounted ≡ censusTo s c 0
   unfolding censusTo eldestTo countBelow allBelow highestBelow firstBelow lowestBelow
   censusTo-none e = cc
 
@@ -105,22 +159,22 @@ module _ (s : Shape) (c : Blocks) where
 
   pub seatsTo-is : (l j : ℕ) {b g : ℕ} → b ≡ firstBelow j (λ i. isData s c i && eqb (c i .logical) l)
       → g ≡ firstBelow j (λ i. isLive s c i && eqb (c i .logical) l)
-      → _≡_ {A = Seats} (record { base = b; log = g }) (seatsTo s c l j)
+      → _≡_ {A = Seats} (record { «data» = b; log = g }) (seatsTo s c l j)
   unfolding seatsTo
   seatsTo-is l j e f = cc
 
 -- of logical block l
-pub of-logical : (c : Blocks) (j l : ℕ) (p : ℕ → Bool) {b r : Bool} → b ≡ p j → r ≡ (b && eqb (c j .logical) l) → r ≡ (p j && eqb (c j .logical) l)
-of-logical c j l p f g = g ∙ ap (λ (t : Bool). t && eqb (c j .logical) l) f
+pub of-logical : (c : Blocks) (j l : ℕ) (p : ℕ → Bool) {x : Block} {b r : Bool} → x ≡ c j → b ≡ p j → r ≡ (b && eqb (x .logical) l)
+    → r ≡ (p j && eqb (c j .logical) l)
+of-logical c j l p {x} {b} e f g = g ∙ ap (λ (y : Block). b && eqb (y .logical) l) e ∙ ap (λ (t : Bool). t && eqb (c j .logical) l) f
 
 -- what the calls of `count` say, put together
-pub counted-from : (s : Shape) (t : Census) (j : ℕ) (x : Block) (d : ℕ) {good ill live old free eldest sound recovered : Bool} {more logs highest place oldest low : ℕ}
-    → good ≡ isGood (x .state) → more ≡ cond good 1 0 → ill ≡ isIll (x .state) → sound ≡ (t .sound && not ill)
+pub counted-from : (s : Shape) (t : Census) (j : ℕ) (x : Block) (d : ℕ) {ill live old free eldest sound recovered : Bool} {logs highest place oldest low : ℕ}
+    → ill ≡ isIll (x .state) → sound ≡ (t .sound && not ill)
     → live ≡ isLiveBy s x d → logs ≡ cond live 1 0 → old ≡ isObsoleteBy s x d → recovered ≡ (t .recovered && not old)
     → highest ≡ max (t .highest) (x .number) → free ≡ isFree (x .state) → place ≡ orNone (t .free) (cond free j none)
     → eldest ≡ isEldest t x live → oldest ≡ cond eldest j (t .eldest) → low ≡ cond eldest (x .number) (t .low)
     → _≡_ {A = Census} (record {
-      good = t .good + more;
       sound = sound;
       live = t .live + logs;
       recovered = recovered;
@@ -130,15 +184,8 @@ pub counted-from : (s : Shape) (t : Census) (j : ℕ) (x : Block) (d : ℕ) {goo
       low = low;
     }) (counted s t j x d)
 unfolding counted
-counted-from s t j x d a1 a2 a3 a4 a5 a6 a7 a8 a9 a10 a11 a12 a13 a14 = cc
+counted-from s t j x d a3 a4 a5 a6 a7 a8 a9 a10 a11 a12 a13 a14 = cc
 
-pub counted-turn : (s : Shape) (c : Blocks) (j : ℕ) {t r : Census} {d : ℕ} → d ≡ dataNumber s c (c j .logical)
-    → t ≡ censusTo s c j → r ≡ counted s t j (c j) d → r ≡ censusTo s c (j + 1)
-counted-turn s c j {t} {r} {d} number e f =
-    f ∙ ap (λ (u : Census). counted s u j (c j) d) e ∙ ap (counted s (censusTo s c j) j (c j)) number ∙ censusTo-more s c j
-
--- There is one array of 64 numbers with the data numbers.
-pub numbers-one : {s : Shape} {c : Blocks} {ds ds′ : List ℕ} → length ds ≡ 64 → length ds′ ≡ 64 → Numbers s c ds → Numbers s c ds′ → ds ≡ ds′
-numbers-one {s} {c} l l′ n n′ =
-    stored-one (λ j. dataNumber s c (c j .logical)) 0 (s .blocks)
-    (record { long = l; stored = n .at; rest = n .past }) (record { long = l′; stored = n′ .at; rest = n′ .past })
+pub counted-turn : (s : Shape) (c : Blocks) (j : ℕ) {t r : Census} {x : Block} {d : ℕ} → x ≡ c j → d ≡ dataNumber s c (c j .logical)
+    → t ≡ censusTo s c j → r ≡ counted s t j x d → r ≡ censusTo s c (j + 1)
+counted-turn s c j same number e f = f ∙ rw (same, e, number) (censusTo-more s c j)

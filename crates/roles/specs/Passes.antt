@@ -1,40 +1,38 @@
--- What the passes over the records collect, each after the first n records. Assumes nothing.
+-- What the passes over the records collect, each after the first n records.
 use mathlib.Core.Path.{_≡_}
-use mathlib.Core.Bool.{Bool, _&&_, not, cond}
+use mathlib.Core.Bool.{_&&_, not}
 use mathlib.Core.List.{List}
 use Prim.Native.Nat.{ℕ, _<_, _≤_}
-use lib.Dec.{ltb, eqb}
-use lib.ListN.{getD}
+use lib.Dec.{eqb}
 use mathlib.Core.Logic.{_⊎_}
 use Rattle.rules.specs.declared.shape.Shape.{Shape}
-use Rattle.rules.specs.declared.block.Block.{Block}
-use Rattle.rules.specs.Below.{allBelow, countBelow, highestBelow, firstBelow, lowestBelow, none}
-use Rattle.rules.specs.Spare.{logKind}
-use Rattle.rules.specs.WellFormed.{Blocks, isGood, isFree, isIll, isUsed, isComplete, dataNumber, isData, isLive, isObsolete}
+use Rattle.rules.specs.declared.block.State.the-variants.{Bad}
+use Rattle.rules.specs.Below.{allBelow, countBelow, highestBelow, firstBelow, lowestBelow, listBelow, none}
+use Rattle.rules.specs.Shape.{most}
+use Rattle.rules.specs.WellFormed.{Blocks, notUsed, isGood, isFree, isIll, dataNumber, isData, isLive, isObsolete}
 use Rattle.roles.specs.declared.census.Census.{Census}
 use Rattle.roles.specs.declared.seats.Seats.{Seats}
 
--- ---- roles: by a record x, and the number d of the data block of its logical block, 0 for none
+-- the records of a card that has the good blocks it needs: L is below B then, so that an array has room for a number of each logical block
+pub record Recorded (s : Shape) (c : Blocks) : Type 0 where
+  pub few : s .blocks ≤ most
+  pub small : (j : ℕ) → c j .logical < most
+  pub outside : (j : ℕ) → s .blocks ≤ j → c j ≡ notUsed Bad
+  pub fits : (j : ℕ) → c j .filled ≤ s .pages
 
-abbrev pub isDataBy : Shape → Block → ℕ → Bool
-isDataBy s x d = isComplete s x && eqb (x .number) d
+-- the number of each logical block's data block, 0 for none
+abbrev pub numbersOf : Shape → Blocks → List ℕ
+numbersOf s c = listBelow most (dataNumber s c)
 
-abbrev pub isLiveBy : Shape → Block → ℕ → Bool
-isLiveBy s x d = isUsed (x .state) && eqb (x .kind) logKind && not (isComplete s x) && ltb d (x .number)
-
-abbrev pub isObsoleteBy : Shape → Block → ℕ → Bool
-isObsoleteBy s x d = isUsed (x .state) && not (isDataBy s x d) && not (isLiveBy s x d)
-
--- its number, if it is a complete block of logical block l
-abbrev pub completeNumber : Shape → Block → ℕ → ℕ
-completeNumber s x l = cond (isComplete s x && eqb (x .logical) l) (x .number) 0
-
--- ds has that number for each record, and 0 past them
-pub record Numbers (s : Shape) (c : Blocks) (ds : List ℕ) : Type 0 where
-  pub at : (j : ℕ) → j < s .blocks → getD ds j 0 ≡ dataNumber s c (c j .logical)
-  pub past : (j : ℕ) → s .blocks ≤ j → getD ds j 0 ≡ 0
+-- what every function over the records asks for: such records, and those numbers
+pub record Numbers (s : Shape) (c : Blocks) (numbers : List ℕ) : Type 0 where
+  pub recorded : Recorded s c
+  pub numbers-are : numbers ≡ numbersOf s c
 
 -- ---- what one pass counts and finds
+
+abbrev pub goodTo : Blocks → ℕ → ℕ
+goodTo c n = countBelow n (λ j. isGood (c j .state))
 
 unfoldable pub eldestTo : Shape → Blocks → ℕ → ℕ
 eldestTo s c n = lowestBelow n (isLive s c) (λ j. c j .number)
@@ -42,7 +40,6 @@ eldestTo s c n = lowestBelow n (isLive s c) (λ j. c j .number)
 unfoldable pub censusTo : Shape → Blocks → ℕ → Census
 censusTo s c n =
     record {
-      good = countBelow n (λ j. isGood (c j .state));
       sound = allBelow n (λ j. not (isIll (c j .state)));
       live = countBelow n (isLive s c);
       recovered = allBelow n (λ j. not (isObsolete s c j));
@@ -60,7 +57,7 @@ census s c = censusTo s c (s .blocks)
 unfoldable pub seatsTo : Shape → Blocks → ℕ → ℕ → Seats
 seatsTo s c l n =
     record {
-      base = firstBelow n (λ j. isData s c j && eqb (c j .logical) l);
+      «data» = firstBelow n (λ j. isData s c j && eqb (c j .logical) l);
       log = firstBelow n (λ j. isLive s c j && eqb (c j .logical) l);
     }
 

@@ -2,18 +2,18 @@
 ghost use mathlib.Core.Path.{_≡_};
 ghost use mathlib.Core.Bool.{cond};
 ghost use Prim.Native.Nat.{_≤_, _<_};
-ghost use Rattle.rules.specs.WellFormed.{blocksIn};
-ghost use Rattle.roles.specs.Passes.{Numbers, census};
-ghost use Rattle.roles.specs.Counted.{counted, isEldest};
+ghost use Rattle.words.specs.Words.{recordsIn};
+ghost use Rattle.rules.specs.Shape.{most};
+ghost use Rattle.roles.specs.Passes.{Numbers, goodTo, census};
+ghost use Rattle.roles.specs.Counted.{noneCounted, counted, isEldest};
 use super::numbers;
 use super::role;
 use rules::block::Block;
+use rules::shape::MOST;
 use rules::shape::Shape;
 use rules::test;
 
 pub struct Census {
-    // good blocks
-    pub good: usize,
     // no block is ill
     pub sound: bool,
     // live log blocks
@@ -27,6 +27,21 @@ pub struct Census {
     // the live log block with the lowest number, and that number
     pub eldest: usize,
     pub low: u32,
+}
+
+// The census of no record.
+pub fn blank() -> Census
+    ensures { λ r. ⌜ r ≡ noneCounted ⌝ }
+{
+    Census {
+        sound: true,
+        live: 0,
+        recovered: true,
+        highest: 0,
+        free: role::NONE,
+        eldest: role::NONE,
+        low: 0,
+    }
 }
 
 fn bit_of(passes: bool) -> usize
@@ -56,14 +71,13 @@ fn number_if(passes: bool, n: u32, other: u32) -> u32
 
 // The census with record x of block j.
 fn count(s: Shape, t: Census, j: usize, x: Block, d: u32) -> Census
-    requires { ⌜ (t .good < 64) × (t .live < 64) ⌝ }
+    requires { ⌜ t .live < most ⌝ }
     ensures { λ r. ⌜ r ≡ counted s t j x d ⌝ }
 {
     let state = x.state;
     let live = role::is_live(s, x, d);
     let eldest = is_eldest(t, x, live);
     Census {
-        good: t.good + bit_of(state.is_good()),
         sound: test::and(t.sound, !state.is_ill()),
         live: t.live + bit_of(live),
         recovered: test::and(t.recovered, !role::is_obsolete(s, x, d)),
@@ -74,25 +88,34 @@ fn count(s: Shape, t: Census, j: usize, x: Block, d: u32) -> Census
     }
 }
 
-pub fn take(s: Shape, list: [Block; 64], ds: [u32; 64]) -> Census
-    requires { ⌜ (s .blocks ≤ 64) × Numbers s (blocksIn list) ds ⌝ }
-    ensures { λ r. ⌜ r ≡ census s (blocksIn list) ⌝ }
+// How many blocks are good.
+pub fn good(s: Shape, list: &[u64; MOST]) -> usize
+    requires { ⌜ s .blocks ≤ most ⌝ }
+    ensures { λ r. ⌜ r ≡ goodTo (recordsIn (now (list .entry))) (s .blocks) ⌝ }
 {
     let blocks = s.blocks;
-    let mut t = Census {
-        good: 0,
-        sound: true,
-        live: 0,
-        recovered: true,
-        highest: 0,
-        free: role::NONE,
-        eldest: role::NONE,
-        low: 0,
-    };
+    let mut n = 0;
     let mut j = 0;
     while j < blocks {
-        let x = list[j];
-        let d = ds[j];
+        let x = words::unpack(list[j]);
+        let state = x.state;
+        n += bit_of(state.is_good());
+        j += 1;
+    }
+    n
+}
+
+pub fn take<'a>(s: Shape, list: &'a [u64; MOST], numbers: &'a [u32; MOST]) -> Census
+    requires { ⌜ Numbers s (recordsIn (now list)) (now numbers) ⌝ }
+    ensures { λ r. ⌜ r ≡ census s (recordsIn (now (list .entry))) ⌝ }
+{
+    let blocks = s.blocks;
+    let mut t = blank();
+    let mut j = 0;
+    while j < blocks {
+        let x = words::unpack(list[j]);
+        let at = x.logical as usize;
+        let d = numbers[at];
         t = count(s, t, j, x, d);
         j += 1;
     }

@@ -1,34 +1,34 @@
 // The blocks of one logical block.
 ghost use mathlib.Core.Path.{_≡_};
-ghost use Prim.Native.Nat.{_≤_};
-ghost use Rattle.rules.specs.WellFormed.{blocksIn};
+ghost use Rattle.words.specs.Words.{recordsIn};
 ghost use Rattle.roles.specs.Passes.{Numbers, seats};
 use super::role;
-use rules::block::Block;
+use rules::shape::MOST;
 use rules::shape::Shape;
 use rules::test;
 
 // The data block and the live log block of a logical block, NONE for none.
 pub struct Seats {
-    pub base: usize,
+    pub data: usize,
     pub log: usize,
 }
 
-pub fn of(s: Shape, list: [Block; 64], ds: [u32; 64], l: usize) -> Seats
-    requires { ⌜ (s .blocks ≤ 64) × Numbers s (blocksIn list) ds ⌝ }
-    ensures { λ r. ⌜ r ≡ seats s (blocksIn list) l ⌝ }
+pub fn of<'a>(s: Shape, list: &'a [u64; MOST], numbers: &'a [u32; MOST], l: usize) -> Seats
+    requires { ⌜ Numbers s (recordsIn (now list)) (now numbers) ⌝ }
+    ensures { λ r. ⌜ r ≡ seats s (recordsIn (now (list .entry))) l ⌝ }
 {
     let blocks = s.blocks;
-    let mut base = role::NONE;
+    let mut data = role::NONE;
     let mut log = role::NONE;
     let mut j = 0;
     while j < blocks {
-        let x = list[j];
-        let d = ds[j];
-        let here = x.logical as usize == l;
-        base = role::first_of(base, test::and(role::is_data(s, x, d), here), j);
+        let x = words::unpack(list[j]);
+        let at = x.logical as usize;
+        let d = numbers[at];
+        let here = at == l;
+        data = role::first_of(data, test::and(role::is_data(s, x, d), here), j);
         log = role::first_of(log, test::and(role::is_live(s, x, d), here), j);
         j += 1;
     }
-    Seats { base, log }
+    Seats { data, log }
 }

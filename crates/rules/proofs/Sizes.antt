@@ -1,10 +1,11 @@
--- The sizes of a card within the limits: B x P pages, at most 64 x 32. Assumes nothing.
+-- The sizes of a card within the limits: B x P pages, at most `most` x 32.
 use mathlib.Core.Path.{subst}
 use Prim.Native.Nat.{ℕ, _+_, _*_, _≤_, _<_}
 use native.Mathlib.Nat.{suc-mul, mul-le-mul, mul-le-mul-right}
 use native.Mathlib.Omega.{arith}
+use Rattle.rules.specs.Shape.{most}
 
-pub pages-most : {B P : ℕ} → B ≤ 64 → P ≤ 32 → B * P ≤ 2048
+pub pages-most : {B P : ℕ} → B ≤ most → P ≤ 32 → B * P ≤ most * 32
 pages-most hB hP = mul-le-mul hB hP
 
 -- block b of B, P pages each, lies within the B x P pages

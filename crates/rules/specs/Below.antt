@@ -1,4 +1,4 @@
--- Tests, counts, searches and lists over the numbers below n, each by the length of the prefix, as a loop goes. Assumes nothing.
+-- Tests, counts, searches and lists over the numbers below n, each by the length of the prefix, as a loop goes.
 use mathlib.Core.Bool.{Bool, true, _&&_, cond}
 use mathlib.Core.List.{List, [], _∷_, _++_}
 use Prim.Native.Nat.{ℕ, zero, suc, _+_, max}

@@ -1,4 +1,4 @@
--- The content of a logical page, and the flash page that holds it. Assumes nothing.
+-- The content of a logical page, and the flash page that holds it.
 use mathlib.Core.Bool.{cond}
 use mathlib.Core.List.{List}
 use Prim.Native.Nat.{ℕ, zero, suc}

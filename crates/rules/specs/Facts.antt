@@ -1,9 +1,10 @@
--- Facts that the contracts of the code ask of a caller, or give him. Assumes nothing.
+-- Facts that the contracts of the code ask of a caller, or give him.
 use mathlib.Core.Path.{_≡_}
 use mathlib.Core.List.{List}
 use Prim.Native.Nat.{ℕ, _*_, _≤_}
 use lib.ListN.{length}
 use Rattle.rules.specs.declared.shape.Shape.{Shape}
+use Rattle.rules.specs.Shape.{most}
 use Rattle.rules.specs.Page.{Image}
 
 -- ---- the limits
@@ -13,7 +14,7 @@ pub record Limits (s : Shape) : Type 0 where
   pub pages-low : 2 ≤ s .pages
   pub pages-high : s .pages ≤ 32
   pub blocks-low : 3 ≤ s .blocks
-  pub blocks-high : s .blocks ≤ 64
+  pub blocks-high : s .blocks ≤ most
   pub logical-low : 1 ≤ s .logical
   pub logs-low : 1 ≤ s .logs
 

@@ -1,5 +1,5 @@
 -- Document 01 as definitions, section by section. Below and Bytes are what they are made of; Facts is what contracts of the code ask, and no
--- part of document 01.
+-- part of document 01; Promises is what the commands promise.
 pub mod Below
 pub mod Bytes
 pub mod Shape
@@ -10,3 +10,5 @@ pub mod Content
 pub mod Steps
 pub mod Replies
 pub mod Facts
+pub mod Promises
+pub mod Computing

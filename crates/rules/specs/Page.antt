@@ -1,4 +1,4 @@
--- The image, its pages, and what a page says. Assumes nothing.
+-- The image, its pages, and what a page says.
 use mathlib.Core.Bool.{Bool, true, false, _&&_, cond}
 use mathlib.Core.List.{List}
 use Prim.Native.Nat.{ℕ, _*_}

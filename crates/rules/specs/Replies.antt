@@ -1,4 +1,4 @@
--- What the card replies: total functions of what a command is given. Assumes nothing.
+-- What the card replies: total functions of what a command is given.
 use mathlib.Core.Bool.{Bool, not, cond}
 use mathlib.Core.List.{List, [], _∷_, _++_}
 use Prim.Native.Nat.{ℕ, zero, suc, _+_, _*_}
@@ -14,9 +14,10 @@ use Rattle.rules.specs.Spare.{numberLimit}
 use Rattle.rules.specs.Shape.{shapeOf, withinLimits, blockOf, inRange, goodNeeded}
 use Rattle.rules.specs.Page.{Image, pageBytes}
 use Rattle.rules.specs.WellFormed.{Blocks, blocksOf, isGood, isObsolete, dataBlock, liveLog, wellFormed}
-use Rattle.rules.specs.Content.{holder, bytesAt}
+use Rattle.rules.specs.Content.{holder, content}
 use Rattle.rules.specs.Steps.{Step, stepsDone, programs, erases, highest, formatList, powerUpList, writeCase, numbersNeeded, writeList}
 
+infix 70 _when_
 -- ---- the number, the programs and the erases of an answer
 
 abbrev pub number : Answer → ℕ
@@ -34,9 +35,20 @@ erasesOf (Done p e) = e
 erasesOf (Refused n) = 0
 erasesOf (Cut p e) = e
 
--- ---- the refusals of each command, in the order of the table
---
--- The lowest number that applies is the answer; 0 stands for none of 1 to 7.
+-- ---- refusals
+
+-- a number of the table, and whether what it stands for applies
+pub record Test : Type 0 where
+  pub gives : ℕ
+  pub applies : Bool
+
+abbrev pub _when_ : ℕ → Bool → Test
+n when b = record { gives = n; applies = b }
+
+-- The lowest number that applies is the answer: the first of a list in ascending order, and 0 where none of 1 to 7 applies.
+unfoldable pub firstRefusal : List Test → ℕ
+firstRefusal [] = 0
+firstRefusal (t ∷ ts) = cond (t .applies) (t .gives) (firstRefusal ts)
 
 unfoldable pub goodBlocks : Shape → Blocks → ℕ
 goodBlocks s c = countBelow (s .blocks) (λ j. isGood (c j .state))
@@ -57,41 +69,55 @@ unrecovered s c = not (allBelow (s .blocks) (λ j. not (isObsolete s c j)))
 abbrev pub outOfNumbers : Shape → Blocks → ℕ → Bool
 outOfNumbers s c l = ltb numberLimit (highest s c + numbersNeeded (writeCase s c l))
 
-unfoldable pub formatRefusal : Shape → Image → Blocks → ℕ
-formatRefusal s im c =
-    cond (outsideLimits s im) 1
-    (cond (tooFewGood s c) 4
-    0)
+-- The tests of each command, in the order of the table.
+
+abbrev pub formatTests : Shape → Image → Blocks → List Test
+formatTests s im c =
+    1 when outsideLimits s im
+    ∷ 4 when tooFewGood s c
+    ∷ []
 
 -- size: the numbers in the table
-unfoldable pub powerUpRefusal : Shape → Image → Blocks → ℕ → ℕ
-powerUpRefusal s im c size =
-    cond (outsideLimits s im) 1
-    (cond (not (eqb size (2 * s .logical))) 2
-    (cond (tooFewGood s c) 4
-    (cond (not (wellFormed s c)) 5
-    0)))
+abbrev pub powerUpTests : Shape → Image → Blocks → ℕ → List Test
+powerUpTests s im c size =
+    1 when outsideLimits s im
+    ∷ 2 when not (eqb size (2 * s .logical))
+    ∷ 4 when tooFewGood s c
+    ∷ 5 when not (wellFormed s c)
+    ∷ []
 
 -- size: the bytes of the page buffer; a: the logical page
+abbrev pub readTests : Shape → Image → Blocks → ℕ → ℕ → List Test
+readTests s im c size a =
+    1 when outsideLimits s im
+    ∷ 2 when not (eqb size 512)
+    ∷ 3 when not (inRange s a)
+    ∷ 4 when tooFewGood s c
+    ∷ 5 when not (wellFormed s c)
+    ∷ []
+
+abbrev pub writeTests : Shape → Image → Blocks → ℕ → ℕ → List Test
+writeTests s im c size a =
+    1 when outsideLimits s im
+    ∷ 2 when not (eqb size 512)
+    ∷ 3 when not (inRange s a)
+    ∷ 4 when tooFewGood s c
+    ∷ 5 when not (wellFormed s c)
+    ∷ 6 when unrecovered s c
+    ∷ 7 when outOfNumbers s c (blockOf s a)
+    ∷ []
+
+unfoldable pub formatRefusal : Shape → Image → Blocks → ℕ
+formatRefusal s im c = firstRefusal (formatTests s im c)
+
+unfoldable pub powerUpRefusal : Shape → Image → Blocks → ℕ → ℕ
+powerUpRefusal s im c size = firstRefusal (powerUpTests s im c size)
+
 unfoldable pub readRefusal : Shape → Image → Blocks → ℕ → ℕ → ℕ
-readRefusal s im c size a =
-    cond (outsideLimits s im) 1
-    (cond (not (eqb size 512)) 2
-    (cond (not (inRange s a)) 3
-    (cond (tooFewGood s c) 4
-    (cond (not (wellFormed s c)) 5
-    0))))
+readRefusal s im c size a = firstRefusal (readTests s im c size a)
 
 unfoldable pub writeRefusal : Shape → Image → Blocks → ℕ → ℕ → ℕ
-writeRefusal s im c size a =
-    cond (outsideLimits s im) 1
-    (cond (not (eqb size 512)) 2
-    (cond (not (inRange s a)) 3
-    (cond (tooFewGood s c) 4
-    (cond (not (wellFormed s c)) 5
-    (cond (unrecovered s c) 6
-    (cond (outOfNumbers s c (blockOf s a)) 7
-    0))))))
+writeRefusal s im c size a = firstRefusal (writeTests s im c size a)
 
 -- ---- the replies
 
@@ -161,7 +187,7 @@ tableLeft s im old cut = unless (number (powerUpReply s im (length old) cut .ans
 unfoldable pub pageLeft : Shape → Image → List ℕ → ℕ → List ℕ
 pageLeft s im old a =
     let c : Blocks = blocksOf s im in
-    unless (readRefusal s im c (length old) a) old (bytesAt im (holder s im c a))
+    unless (readRefusal s im c (length old) a) old (content s im c a)
 
 -- Page lending lends back the page's own 512 bytes of the image; the part is empty when read would refuse (its buffer check aside) or when no
 -- flash page holds the content.

@@ -1,4 +1,4 @@
--- The shape of a card: P pages per block, B blocks, L logical blocks, K log blocks at most. Assumes nothing.
+-- The shape of a card: P pages per block, B blocks, L logical blocks, K log blocks at most.
 use mathlib.Core.Bool.{Bool, _&&_}
 use Prim.Native.Nat.{ℕ, _+_, _*_, _/_, _%_}
 use lib.Dec.{leb, ltb, eqb}
@@ -8,11 +8,15 @@ use Rattle.rules.specs.declared.shape.Shape.{Shape}
 abbrev pub shapeOf : ℕ → ℕ → ℕ → ℕ → Shape
 shapeOf P L K bytes = record { pages = P; blocks = bytes / 512 / P; logical = L; logs = K }
 
+-- the most blocks that a card may have; the code has room for so many records
+abbrev pub most : ℕ
+most = 64
+
 -- P 2 to 32, B 3 to 64, L and K at least 1; both images have B x P pages.
 unfoldable pub withinLimits : Shape → ℕ → ℕ → Bool
 withinLimits s bytes spares =
     leb 2 (s .pages) && leb (s .pages) 32
-    && leb 3 (s .blocks) && leb (s .blocks) 64
+    && leb 3 (s .blocks) && leb (s .blocks) most
     && leb 1 (s .logical)
     && leb 1 (s .logs)
     && eqb bytes (s .blocks * s .pages * 512)

@@ -1,4 +1,4 @@
--- The spare table of document 01: what the sixteen spare bytes of a page say. Assumes nothing.
+-- The spare table of document 01: what the sixteen spare bytes of a page say.
 --
 --   bytes   content
 --   0-3     sequence number, low byte first, 1 to 4,294,967,294

@@ -1,4 +1,4 @@
--- Commands as lists of steps. The list is fixed by the image and the call. Assumes nothing.
+-- Commands as lists of steps. The list is fixed by the image and the call.
 --
 -- im is the image, and c its records.
 use mathlib.Core.Bool.{_&&_, not, cond}
@@ -47,6 +47,10 @@ erases [] = 0
 erases (program p d t ∷ ts) = erases ts
 erases (erase b ∷ ts) = suc (erases ts)
 
+-- the program that makes page p an entry: number n, kind k, logical page a, and the bytes d
+abbrev pub entryStep : ℕ → ℕ → ℕ → ℕ → List ℕ → Step
+entryStep p n k a d = program p d (spareBytes n k a)
+
 -- ---- the block that is taken
 
 -- "Take a block" means the lowest-numbered free block at that moment, ..
@@ -61,6 +65,18 @@ highest s c = highestBelow (s .blocks) (λ j. c j .number)
 abbrev pub newNumber : Shape → Blocks → ℕ
 newNumber s c = highest s c + 1
 
+-- page o of a copy of logical block l in block f, with number n and the bytes page o
+abbrev pub copyStep : Shape → ℕ → ℕ → ℕ → (ℕ → List ℕ) → ℕ → Step
+copyStep s f n l page o = entryStep (pageNo s f o) n copyKind (logicalPage s l o) (page o)
+
+-- A logical block made anew: take a block, program its P pages in order with the bytes page 0, page 1, .., kind copy; ..
+unfoldable pub copies : Shape → Blocks → ℕ → (ℕ → List ℕ) → List Step
+copies s c l page = listBelow (s .pages) (copyStep s (taken s c) (newNumber s c) l page)
+
+-- .. erase the log block, if any; erase the data block, if any.
+unfoldable pub renewal : Shape → Blocks → ℕ → (ℕ → List ℕ) → List Step
+renewal s c l page = copies s c l page ++ map erase (ifAny (liveLog s c l) ++ ifAny (dataBlock s c l))
+
 -- ---- format, power-up and merge
 
 -- Format: erase each good block that is not free, in ascending order.
@@ -71,14 +87,13 @@ formatList s c = map erase (pickBelow (s .blocks) (λ j. isGood (c j .state) && 
 unfoldable pub powerUpList : Shape → Blocks → List Step
 powerUpList s c = map erase (pickBelow (s .blocks) (isObsolete s c))
 
--- Merge of logical block l: take a block, program its P pages in order with the present content, kind copy; ..
-unfoldable pub copies : Shape → Image → Blocks → ℕ → List Step
-copies s im c l =
-    listBelow (s .pages) (λ o. program (pageNo s (taken s c) o) (content s im c (logicalPage s l o)) (spareBytes (newNumber s c) copyKind (logicalPage s l o)))
+-- the present content of logical block l, by offset
+abbrev pub contents : Shape → Image → Blocks → ℕ → ℕ → List ℕ
+contents s im c l o = content s im c (logicalPage s l o)
 
--- .. erase the log block; erase the data block, if any.
+-- Merge of logical block l: it is made anew with the present content.
 unfoldable pub mergeList : Shape → Image → Blocks → ℕ → List Step
-mergeList s im c l = copies s im c l ++ map erase (ifAny (liveLog s c l) ++ ifAny (dataBlock s c l))
+mergeList s im c l = renewal s c l (contents s im c l)
 
 -- the logical block of the live log block with the lowest sequence number
 unfoldable pub victim : Shape → Blocks → ℕ
@@ -130,7 +145,7 @@ logNumber s c (merging m) l = newNumber s c
 unfoldable pub ownStep : Shape → Blocks → Case → ℕ → List ℕ → Step
 ownStep s c k a d =
     let b : ℕ = logBlock s c k (blockOf s a) in
-    program (pageNo s b (c b .filled)) d (spareBytes (logNumber s c k (blockOf s a)) logKind a)
+    entryStep (pageNo s b (c b .filled)) (logNumber s c k (blockOf s a)) logKind a d
 
 -- If the program makes the log block complete, then erase l's former data block, if any.
 unfoldable pub eraseAfter : Shape → Image → Blocks → Case → ℕ → List ℕ → List ℕ

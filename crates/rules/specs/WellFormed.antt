@@ -1,4 +1,4 @@
--- A well-formed image: W1 to W7, the record of a block, and the roles of used blocks. Assumes nothing.
+-- A well-formed image: W1 to W7, the record of a block, and the roles of used blocks.
 use mathlib.Core.Bool.{Bool, true, false, _&&_, _||_, not, cond}
 use mathlib.Core.List.{List}
 use Prim.Native.Nat.{ℕ}
@@ -17,10 +17,14 @@ use Rattle.rules.specs.Page.{Image, pageSpare, pageAt, isErased, isEntry
 
 -- ---- W1 to W4, at page i of a used block whose pages are g
 --
--- An erased page passes each. The kind, the number and the logical block of a block are those of its first page.
+-- An erased page passes each.
 
 abbrev pub Pages : Type 0
 Pages = ℕ → Page
+
+-- the page that gives a block its kind, its number and its logical block: the first
+abbrev pub naming : Pages → Page
+naming g = g 0
 
 abbrev pub Rule : Type 0
 Rule = Shape → Pages → ℕ → Bool
@@ -31,15 +35,15 @@ W1 s g i = isErased (g i) || allBelow i (λ j. not (isErased (g j)))
 
 -- They have the bytes of the spare table, one kind and one sequence number.
 unfoldable pub W2 : Rule
-W2 s g i = isErased (g i) || (isEntry (g i) && eqb (kindOf (g i)) (kindOf (g 0)) && eqb (numberOf (g i)) (numberOf (g 0)))
+W2 s g i = isErased (g i) || (isEntry (g i) && eqb (kindOf (g i)) (kindOf (naming g)) && eqb (numberOf (g i)) (numberOf (naming g)))
 
 -- Their addresses are in range and in one logical block.
 unfoldable pub W3 : Rule
-W3 s g i = isErased (g i) || (inRange s (addressOf (g i)) && eqb (blockOf s (addressOf (g i))) (blockOf s (addressOf (g 0))))
+W3 s g i = isErased (g i) || (inRange s (addressOf (g i)) && eqb (blockOf s (addressOf (g i))) (blockOf s (addressOf (naming g))))
 
 -- In a copy block, page i has offset i.
 unfoldable pub W4 : Rule
-W4 s g i = isErased (g i) || not (eqb (kindOf (g 0)) copyKind) || eqb (offsetOf s (addressOf (g i))) i
+W4 s g i = isErased (g i) || not (eqb (kindOf (naming g)) copyKind) || eqb (offsetOf s (addressOf (g i))) i
 
 -- of every page of the block
 unfoldable pub W1to4 : Shape → Pages → Bool
@@ -95,9 +99,9 @@ abbrev pub usedBlock : Shape → Pages → Block
 usedBlock s g =
     record {
       state = Used;
-      kind = kindOf (g 0);
-      number = numberOf (g 0);
-      logical = blockOf s (addressOf (g 0));
+      kind = kindOf (naming g);
+      number = numberOf (naming g);
+      logical = blockOf s (addressOf (naming g));
       filled = filledIn s g;
       ordered = inOrder s g (filledIn s g);
     }
@@ -106,9 +110,13 @@ usedBlock s g =
 unfoldable pub goodBlock : Shape → Pages → Block
 goodBlock s g = cond (allErased s g) (notUsed Free) (cond (W1to4 s g) (usedBlock s g) (notUsed Ill))
 
+-- a page with these spare bytes carries the mark of a bad block
+abbrev pub badMark : List ℕ → Bool
+badMark t = not (eqb (statusIn t) 255)
+
 -- A block is bad when byte 5 of its first page is not 255.
 unfoldable pub isBad : Shape → Image → ℕ → Bool
-isBad s im b = not (eqb (statusIn (pageSpare im (pageNo s b 0))) 255)
+isBad s im b = badMark (pageSpare im (pageNo s b 0))
 
 -- the pages of block b, each read once
 unfoldable pub pagesOf : Shape → Image → ℕ → Pages
@@ -148,28 +156,40 @@ W5 s c = noTwo s (λ i j. isUsed (c i .state) && isUsed (c j .state) && eqb (c i
 unfoldable pub isComplete : Shape → Block → Bool
 isComplete s x = isUsed (x .state) && eqb (x .filled) (s .pages) && x .ordered
 
+-- its number, if it is a complete block of logical block l, else 0
+abbrev pub completeNumber : Shape → Block → ℕ → ℕ
+completeNumber s x l = cond (isComplete s x && eqb (x .logical) l) (x .number) 0
+
 -- the highest number of the complete blocks of logical block l, 0 if it has none
 unfoldable pub dataNumber : Shape → Blocks → ℕ → ℕ
-dataNumber s c l = highestBelow (s .blocks) (λ j. cond (isComplete s (c j) && eqb (c j .logical) l) (c j .number) 0)
+dataNumber s c l = highestBelow (s .blocks) (λ j. completeNumber s (c j) l)
+
+-- The role of a block, by its record x and the number d of the data block of its logical block, 0 for none.
 
 -- The complete block with the highest number is its logical block's data block.
-unfoldable pub isData : Shape → Blocks → ℕ → Bool
-isData s c j = isComplete s (c j) && eqb (c j .number) (dataNumber s c (c j .logical))
+abbrev pub isDataBy : Shape → Block → ℕ → Bool
+isDataBy s x d = isComplete s x && eqb (x .number) d
 
 -- A log block that is not complete and has a higher number than the data block (or any number, if there is none) is live.
+abbrev pub isLiveBy : Shape → Block → ℕ → Bool
+isLiveBy s x d = isUsed (x .state) && eqb (x .kind) logKind && not (isComplete s x) && ltb d (x .number)
+
+-- Used blocks that are neither data block nor live are obsolete.
+abbrev pub isObsoleteBy : Shape → Block → ℕ → Bool
+isObsoleteBy s x d = isUsed (x .state) && not (isDataBy s x d) && not (isLiveBy s x d)
+
+unfoldable pub isData : Shape → Blocks → ℕ → Bool
+isData s c j = isDataBy s (c j) (dataNumber s c (c j .logical))
+
 unfoldable pub isLive : Shape → Blocks → ℕ → Bool
-isLive s c j =
-    isUsed (c j .state) && eqb (c j .kind) logKind
-    && not (isComplete s (c j))
-    && ltb (dataNumber s c (c j .logical)) (c j .number)
+isLive s c j = isLiveBy s (c j) (dataNumber s c (c j .logical))
+
+unfoldable pub isObsolete : Shape → Blocks → ℕ → Bool
+isObsolete s c j = isObsoleteBy s (c j) (dataNumber s c (c j .logical))
 
 -- A logical block has at most one live log block.
 unfoldable pub W6 : Shape → Blocks → Bool
 W6 s c = noTwo s (λ i j. isLive s c i && isLive s c j && eqb (c i .logical) (c j .logical))
-
--- Used blocks that are neither data block nor live are obsolete.
-unfoldable pub isObsolete : Shape → Blocks → ℕ → Bool
-isObsolete s c j = isUsed (c j .state) && not (isData s c j) && not (isLive s c j)
 
 -- the data block of logical block l, or none
 unfoldable pub dataBlock : Shape → Blocks → ℕ → ℕ

@@ -1,8 +1,11 @@
 ghost use mathlib.Core.Path.{_≡_};
-ghost use Prim.Native.Nat.{_*_, _/_, _≤_, _<_};
+ghost use Prim.Native.Nat.{_*_, _/_, _<_};
 ghost use lib.Dec.{ltb};
 ghost use Rattle.rules.specs.Shape.{shapeOf, withinLimits, pageNo, inRange, goodNeeded};
 ghost use Rattle.rules.specs.Facts.{Limits};
+
+// The most blocks that a card may have; arrays of records have room for so many.
+pub const MOST: usize = 64;
 
 // The shape of a card is four numbers.
 pub struct Shape {
@@ -54,7 +57,7 @@ impl Shape {
         if blocks < 3 {
             return false;
         }
-        if blocks > 64 {
+        if blocks > MOST {
             return false;
         }
         if self.logical < 1 {
@@ -112,12 +115,14 @@ impl Shape {
         p * 16
     }
 
-    // Whether a is 0 to L x P - 1, for any L: the product itself might not fit.
+    // Whether a is 0 to L x P - 1, for any L and P: the product itself might not fit.
     pub fn in_range(self, a: usize) -> bool
-        requires { ⌜ 1 ≤ self .pages ⌝ }
         ensures { λ r. ⌜ r ≡ inRange self a ⌝ }
     {
         let pages = self.pages;
+        if pages == 0 {
+            return false;
+        }
         a / pages < self.logical
     }
 

@@ -1,4 +1,4 @@
--- The answer of a command whose steps are over. Assumes nothing.
+-- The answer of a command whose steps are over.
 use mathlib.Core.Bool.{cond}
 use Rattle.rules.specs.declared.answer.Answer.{Answer}
 use Rattle.rules.specs.declared.answer.Answer.the-variants.{Done, Cut}

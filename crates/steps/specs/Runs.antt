@@ -1,4 +1,4 @@
--- Steps done one after the other, each counted against the cut number. Assumes nothing.
+-- Steps done one after the other, each counted against the cut number.
 use mathlib.Core.Path.{_≡_}
 use mathlib.Core.Bool.{Bool, true, false, cond}
 use mathlib.Core.List.{List, [], _∷_, map}

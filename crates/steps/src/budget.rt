@@ -5,20 +5,21 @@ ghost use mathlib.Core.List.{[], _∷_};
 ghost use Prim.Native.Nat.{_*_, _≤_, _<_};
 ghost use lib.Dec.{eqb};
 ghost use lib.ListN.{length};
-ghost use Rattle.rules.specs.Steps.{program, erase};
+ghost use Rattle.rules.specs.Steps.{program, erase, entryStep};
 ghost use Rattle.rules.specs.Facts.{Within};
 ghost use Rattle.steps.specs.Runs.{Sane, started, stopped, spent, Does, eraseIf};
 ghost use Rattle.steps.specs.Answers.{finished};
+use nand::spare::spare_bytes;
 use nand::step;
 use rules::answer::Answer;
 use rules::shape::Shape;
 
 // What is left of the cut number, whether a step was left undone, and the steps done.
 pub struct Budget {
-    pub left: usize,
+    left: usize,
     pub short: bool,
-    pub programs: usize,
-    pub erases: usize,
+    programs: usize,
+    erases: usize,
 }
 
 impl Budget {
@@ -89,25 +90,27 @@ impl Budget {
     }
 }
 
-// Programs page p.
-pub fn program_page(
+// Makes page p an entry: number n, kind k, logical page a, and the bytes of the page buffer.
+pub fn program_entry(
     bytes: &mut [u8],
     spare: &mut [u8],
     s: Shape,
     p: usize,
+    n: u32,
+    k: u8,
+    a: usize,
     page: &[u8],
-    marks: &[u8; 16],
     t: Budget,
 ) -> Budget
     requires { ⌜ Within s (length (now bytes)) (length (now spare)) × (p < s .blocks * s .pages)
         × (length (now page) ≡ 512) × Sane t ⌝ }
-    ensures { λ r. ⌜ Does s (λ _. program p (now (page .entry)) (now (marks .entry)) ∷ []) t
+    ensures { λ r. ⌜ Does s (λ _. entryStep p n k a (now (page .entry)) ∷ []) t
         (now (bytes .entry)) (now (spare .entry)) (now (bytes .exit)) (now (spare .exit)) r ⌝ }
 {
     if t.is_spent() {
         return t.stop();
     }
-    step::program_page(bytes, spare, s, p, page, marks);
+    step::program_page(bytes, spare, s, p, page, &spare_bytes(n, k, a));
     t.programmed()
 }
 

@@ -1,4 +1,4 @@
--- A row of worked cases: what a command is given, what it answers and does, and what is looked at afterwards. Assumes nothing.
+-- A row of worked cases: what a command is given, what it answers and does, and what is looked at afterwards.
 use mathlib.Core.Bool.{Bool, true, false, _&&_}
 use mathlib.Core.List.{List, [], _∷_, _++_}
 use Prim.Native.Nat.{ℕ, _+_, _*_}
@@ -12,7 +12,7 @@ use Rattle.rules.specs.Steps.{Step, program, erase, stepDone}
 use Rattle.rules.specs.declared.place.Place.{Place}
 use Rattle.rules.specs.declared.place.Place.the-variants.{At, Nowhere}
 use Rattle.rules.specs.declared.answer.Answer.{Answer}
-use Rattle.rules.specs.Replies.{number, programsOf, erasesOf, shapeFor, Reply, imageLeft, formatReply, powerUpReply, writeReply, readReply, tableLeft, pageLeft, lentPage}
+use Rattle.rules.specs.Replies.{number, programsOf, erasesOf, shapeFor, Reply, imageLeft, formatReply, powerUpReply, writeReply, readReply, tableLeft, pageLeft, lentPage, lentBytes}
 
 -- P, L and K
 pub record Given : Type 0 where
@@ -20,18 +20,19 @@ pub record Given : Type 0 where
   pub L : ℕ
   pub K : ℕ
 
--- what stands on a page before the row: its page number, then number, kind and logical page; or a byte of its spare bytes
+-- what stands on a page before the row: its page number, then number, kind and logical page; or one of its spare bytes, or of its data bytes
 pub data Mark : Type 0 where
   entry : ℕ → ℕ → ℕ → ℕ → Mark
-  byteIs : ℕ → ℕ → ℕ → Mark
+  spareIs : ℕ → ℕ → ℕ → Mark
+  dataIs : ℕ → ℕ → ℕ → Mark
 
 pub data Start : Type 0 where
   -- the image that was left 0, 1, .. rows ago
   left : ℕ → Start
   -- B erased blocks of P pages with some marks on them
   chip : ℕ → ℕ → List Mark → Start
-  -- an erased data image of so many pages, and a spare image of so many
-  uneven : ℕ → ℕ → Start
+  -- a data image of so many pages and a spare image of so many, each byte of them v, which comes first
+  plain : ℕ → ℕ → ℕ → Start
 
 -- a command, its cut number last; a write is of page a with n bytes v, a read of page a with a buffer of n bytes
 pub data Call : Type 0 where
@@ -55,9 +56,10 @@ pub data Look : Type 0 where
   spare : ℕ → List ℕ → Look
   -- the table that a power-up fills
   table : List ℕ → Look
-  -- logical page a is lent from flash page p; from no page
+  -- logical page a is lent from flash page p; from no page; the bytes lent are these
   lent : ℕ → ℕ → Look
   unlent : ℕ → Look
+  lends : ℕ → List ℕ → Look
   -- this read left its whole buffer at v; this power-up left this table. Both were lent full of 7
   got : ℕ → Look
   filled : List ℕ → Look
@@ -86,19 +88,20 @@ shapeIn g im = shapeFor (g .P) (g .L) (g .K) im
 abbrev pub marked : Shape → List Mark → Image → Image
 marked s [] im = im
 marked s (entry i n k a ∷ ms) im = marked s ms (stepDone s (program i (replicate 512 (100 + i)) (spareBytes n k a)) im)
-marked s (byteIs i at v ∷ ms) im = marked s ms (record { bytes = im .bytes; spare = replaced (im .spare) (i * 16 + at) 1 (v ∷ []) })
+marked s (spareIs i at v ∷ ms) im = marked s ms (record { bytes = im .bytes; spare = replaced (im .spare) (i * 16 + at) 1 (v ∷ []) })
+marked s (dataIs i at v ∷ ms) im = marked s ms (record { bytes = replaced (im .bytes) (i * 512 + at) 1 (v ∷ []); spare = im .spare })
 
-abbrev pub erasedPages : ℕ → ℕ → Image
-erasedPages n m = record { bytes = replicate (n * 512) 255; spare = replicate (m * 16) 255 }
+abbrev pub pagesOf : ℕ → ℕ → ℕ → Image
+pagesOf v n m = record { bytes = replicate (n * 512) v; spare = replicate (m * 16) v }
 
 abbrev pub blank : ℕ → ℕ → Image
-blank P B = erasedPages (B * P) (B * P)
+blank P B = pagesOf 255 (B * P) (B * P)
 
 -- old: the images left by the rows before, the last one first
 abbrev pub imageAt : Given → List Image → Start → Image
 imageAt g old (left k) = getD old k (blank 0 0)
 imageAt g old (chip P B ms) = marked (shapeIn g (blank P B)) ms (blank P B)
-imageAt g old (uneven n m) = erasedPages n m
+imageAt g old (plain v n m) = pagesOf v n m
 
 abbrev pub replyTo : Shape → Image → Call → Reply
 replyTo s im (format cut) = formatReply s im cut
@@ -143,6 +146,7 @@ seen s old call im (spare i t) = same (pageSpare im i) (t ++ replicate 8 255)
 seen s old call im (table t) = same (tableLeft s im (replicate (2 * s .logical) 7) 99) t
 seen s old call im (lent a i) = isAt (lentPage s im a) i
 seen s old call im (unlent a) = isNowhere (lentPage s im a)
+seen s old call im (lends a d) = same (lentBytes im (lentPage s im a)) d
 seen s old call im (got v) = gotBy s old call v
 seen s old call im (filled t) = filledBy s old call t
 seen s old call im unchanged = same (im .bytes) (old .bytes) && same (im .spare) (old .spare)

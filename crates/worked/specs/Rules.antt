@@ -1,7 +1,7 @@
--- What document 01's own cases leave unseen: each of W1 to W7 broken, each role, each refusal and their order. Assumes nothing.
+-- What document 01's own cases leave unseen: each of W1 to W7 broken, each role, each refusal and their order.
 use mathlib.Core.List.{List, [], _∷_, _++_}
 use Prim.Native.Nat.{ℕ}
-use Rattle.worked.specs.Rows.{Given, Mark, entry, byteIs, Start, left, chip, uneven, Call, format, powerUp, read, write, Did, p, e, Look, reads, spare, table, lent, unlent, got, filled, unchanged, Row}
+use Rattle.worked.specs.Rows.{Given, Mark, entry, spareIs, dataIs, Start, left, chip, plain, Call, format, powerUp, read, write, Did, p, e, Look, reads, bytes, spare, table, lent, unlent, got, filled, unchanged, Row}
 
 -- P 2, L 2; K 1 and B 4, or K 2 and B 5. Page p holds 512 bytes 100 + p where it is marked. A cut number of 9 cuts nothing.
 abbrev row : ℕ → Start → Call → ℕ → ℕ → ℕ → List Did → List Look → Row
@@ -16,13 +16,17 @@ answersAt P K B a marks =
 abbrev answers : ℕ → ℕ → ℕ → List Mark → Row
 answers = answersAt 2
 
--- a read of page 0 on n erased pages, whose spare image is of m pages, answers a
-abbrev lengths : ℕ → ℕ → ℕ → ℕ → ℕ → ℕ → Row
-lengths P L K n m a =
-    record { given = record { P = P; L = L; K = K }; start = uneven n m; call = read 0 512; answer = a; programs = 0; erases = 0; did = []; looks = [] }
+-- a read of page 0 on n pages of bytes v, whose spare image is of m pages, answers a
+abbrev lengths : ℕ → ℕ → ℕ → ℕ → ℕ → ℕ → ℕ → Row
+lengths v P L K n m a =
+    record { given = record { P = P; L = L; K = K }; start = plain v n m; call = read 0 512; answer = a; programs = 0; erases = 0; did = []; looks = [] }
 
 abbrev shaped : ℕ → ℕ → ℕ → ℕ → ℕ → Row
-shaped P L K n a = lengths P L K n n a
+shaped P L K n a = lengths 255 P L K n n a
+
+-- n pages of which every block is bad: 4 within the limits
+abbrev allBad : ℕ → ℕ → ℕ → Row
+allBad P n a = lengths 0 P 1 1 n n a
 
 -- one page of a log block, of a copy
 abbrev log : ℕ → ℕ → ℕ → Mark
@@ -48,11 +52,15 @@ rules =
     ∷ answers 1 4 5 (log 0 0 0 ∷ [])
     ∷ answers 1 4 5 (log 0 4294967295 0 ∷ [])
     ∷ answers 1 4 0 (log 0 top 0 ∷ [])
-    ∷ answers 1 4 5 (log 0 1 0 ∷ byteIs 0 8 0 ∷ [])
-    ∷ answers 1 4 5 (byteIs 0 15 0 ∷ [])
-    ∷ answers 1 4 5 (log 0 1 0 ∷ log 1 1 1 ∷ byteIs 1 5 0 ∷ [])
+    ∷ answers 1 4 5 (log 0 1 0 ∷ spareIs 0 8 0 ∷ [])
+    ∷ answers 1 4 5 (spareIs 0 15 0 ∷ [])
+    ∷ answers 1 4 5 (log 0 1 0 ∷ log 1 1 1 ∷ spareIs 1 5 0 ∷ [])
     ∷ answers 1 4 5 (log 0 1 0 ∷ copy 1 1 1 ∷ [])
     ∷ answers 1 4 5 (log 0 1 0 ∷ log 1 2 1 ∷ [])
+    -- a page with blank spare bytes is erased only if its data bytes are so too, from the first to the last; format erases its block
+    ∷ answers 1 4 5 (dataIs 0 0 0 ∷ [])
+    ∷ answers 1 4 5 (dataIs 0 511 254 ∷ [])
+    ∷ row 1 (chip 2 4 (dataIs 2 0 254 ∷ dataIs 7 511 0 ∷ [])) (format 9) 0 0 2 (e 1 ∷ e 3 ∷ []) (bytes 2 255 ∷ bytes 7 255 ∷ [])
     -- W3: page 4 is out of range; two logical blocks
     ∷ answers 1 4 5 (log 0 1 4 ∷ [])
     ∷ answers 1 4 0 (log 0 1 3 ∷ [])
@@ -64,7 +72,7 @@ rules =
     -- W5: one number in two used blocks, obsolete ones too, bad ones not
     ∷ answers 2 5 5 (log 0 1 0 ∷ log 2 1 2 ∷ [])
     ∷ answers 1 4 5 (log 0 1 0 ∷ copy 2 1 2 ∷ [])
-    ∷ answers 1 5 0 (log 0 1 0 ∷ copy 2 1 2 ∷ byteIs 2 5 0 ∷ [])
+    ∷ answers 1 5 0 (log 0 1 0 ∷ copy 2 1 2 ∷ spareIs 2 5 0 ∷ [])
     -- W6: two live log blocks of one logical block
     ∷ answers 2 5 5 (log 0 1 0 ∷ log 2 2 1 ∷ [])
     -- W7: two live log blocks, K 1 and K 2
@@ -80,8 +88,8 @@ rules =
     ∷ row 1 (chip 2 4 (base ++ (copy 2 6 2 ∷ log 4 4 1 ∷ []))) (powerUp 4 9) 0 0 2 (e 1 ∷ e 2 ∷ []) []
     ∷ row 1 (chip 2 4 (base ++ (copy 2 6 2 ∷ log 4 4 1 ∷ []))) (powerUp 4 1) 8 0 1 (e 1 ∷ []) (filled (7 ∷ 7 ∷ 7 ∷ 7 ∷ []) ∷ [])
     -- format erases each good block that is not free, ill ones too, and no bad one
-    ∷ row 1 (chip 2 5 (log 2 1 0 ∷ byteIs 5 9 0 ∷ log 6 1 0 ∷ byteIs 6 5 0 ∷ [])) (format 9) 0 0 2 (e 1 ∷ e 2 ∷ []) (spare 6 (1 ∷ 0 ∷ 0 ∷ 0 ∷ 240 ∷ 0 ∷ 0 ∷ 0 ∷ []) ∷ [])
-    ∷ row 1 (chip 2 5 (log 2 1 0 ∷ byteIs 5 9 0 ∷ log 6 1 0 ∷ byteIs 6 5 0 ∷ [])) (format 1) 8 0 1 (e 1 ∷ []) []
+    ∷ row 1 (chip 2 5 (log 2 1 0 ∷ spareIs 5 9 0 ∷ log 6 1 0 ∷ spareIs 6 5 0 ∷ [])) (format 9) 0 0 2 (e 1 ∷ e 2 ∷ []) (spare 6 (1 ∷ 0 ∷ 0 ∷ 0 ∷ 240 ∷ 0 ∷ 0 ∷ 0 ∷ []) ∷ [])
+    ∷ row 1 (chip 2 5 (log 2 1 0 ∷ spareIs 5 9 0 ∷ log 6 1 0 ∷ spareIs 6 5 0 ∷ [])) (format 1) 8 0 1 (e 1 ∷ []) []
     -- K log blocks are live: the one with the lowest number is merged, into the lowest free block
     ∷ record {
       given = record { P = 2; L = 3; K = 2 };
@@ -93,6 +101,8 @@ rules =
       did = p 0 ∷ p 1 ∷ e 2 ∷ p 4 ∷ [];
       looks = reads 3 104 ∷ reads 2 255 ∷ reads 0 102 ∷ reads 4 9 ∷ spare 1 (3 ∷ 0 ∷ 0 ∷ 0 ∷ 15 ∷ 255 ∷ 3 ∷ 0 ∷ []) ∷ spare 4 (4 ∷ 0 ∷ 0 ∷ 0 ∷ 240 ∷ 255 ∷ 4 ∷ 0 ∷ []) ∷ [];
     }
+    -- the number, low byte first, of a page that joins a log block
+    ∷ row 1 (chip 2 4 (log 0 16909060 0 ∷ [])) (write 1 512 1 9) 0 1 0 (p 1 ∷ []) (spare 1 (4 ∷ 3 ∷ 2 ∷ 1 ∷ 240 ∷ 255 ∷ 1 ∷ 0 ∷ []) ∷ [])
     -- 7: new numbers needed, 0, 2 and 1
     ∷ row 1 (chip 2 4 (log 0 top 0 ∷ [])) (write 0 512 1 9) 0 1 0 (p 1 ∷ []) []
     ∷ row 1 (chip 2 4 (log 0 4294967293 0 ∷ [])) (write 2 512 1 0) 7 0 0 [] (unchanged ∷ [])
@@ -102,13 +112,13 @@ rules =
     -- 6 comes before 7, 5 before 6, 4 before 5, 3 before 4, 2 before 3, 1 before 2
     ∷ row 1 (chip 2 4 (base ++ (log 2 top 0 ∷ log 3 top 1 ∷ []))) (write 2 512 1 0) 6 0 0 [] []
     ∷ row 1 (chip 2 4 (base ++ (log 2 6 0 ∷ log 3 6 1 ∷ log 4 6 2 ∷ []))) (write 2 512 1 9) 5 0 0 [] (unlent 0 ∷ [])
-    ∷ row 1 (chip 2 4 (log 0 1 0 ∷ log 2 2 2 ∷ byteIs 6 5 0 ∷ [])) (write 0 512 1 9) 4 0 0 [] (unlent 0 ∷ [])
-    ∷ row 1 (chip 2 4 (byteIs 6 5 0 ∷ [])) (write 4 512 1 9) 3 0 0 [] []
-    ∷ row 1 (chip 2 4 (byteIs 6 5 0 ∷ [])) (powerUp 3 9) 2 0 0 [] (filled (7 ∷ 7 ∷ 7 ∷ []) ∷ [])
-    ∷ row 1 (chip 2 4 (byteIs 6 5 0 ∷ [])) (powerUp 4 9) 4 0 0 [] (filled (7 ∷ 7 ∷ 7 ∷ 7 ∷ []) ∷ [])
-    ∷ row 1 (chip 2 4 (byteIs 6 5 0 ∷ [])) (format 9) 4 0 0 [] (unchanged ∷ [])
+    ∷ row 1 (chip 2 4 (log 0 1 0 ∷ log 2 2 2 ∷ spareIs 6 5 0 ∷ [])) (write 0 512 1 9) 4 0 0 [] (unlent 0 ∷ [])
+    ∷ row 1 (chip 2 4 (spareIs 6 5 0 ∷ [])) (write 4 512 1 9) 3 0 0 [] []
+    ∷ row 1 (chip 2 4 (spareIs 6 5 0 ∷ [])) (powerUp 3 9) 2 0 0 [] (filled (7 ∷ 7 ∷ 7 ∷ []) ∷ [])
+    ∷ row 1 (chip 2 4 (spareIs 6 5 0 ∷ [])) (powerUp 4 9) 4 0 0 [] (filled (7 ∷ 7 ∷ 7 ∷ 7 ∷ []) ∷ [])
+    ∷ row 1 (chip 2 4 (spareIs 6 5 0 ∷ [])) (format 9) 4 0 0 [] (unchanged ∷ [])
     ∷ row 0 (chip 2 4 []) (write 4 511 1 9) 1 0 0 [] []
-    -- 1: P 2 to 32, B at least 3, L and K at least 1, whole blocks
+    -- 1: P 2 to 32, B 3 to 64, L and K at least 1, whole blocks
     ∷ shaped 2 1 1 6 0
     ∷ shaped 1 1 1 6 1
     ∷ shaped 0 1 1 6 1
@@ -117,9 +127,12 @@ rules =
     ∷ shaped 2 1 1 4 1
     ∷ shaped 2 0 1 6 1
     ∷ shaped 2 1 0 6 1
+    ∷ allBad 32 96 4
+    ∷ allBad 2 128 4
+    ∷ allBad 2 130 1
     -- a spare image of fewer pages, of more
-    ∷ lengths 2 1 1 6 5 1
-    ∷ lengths 2 1 1 6 8 1
+    ∷ lengths 255 2 1 1 6 5 1
+    ∷ lengths 255 2 1 1 6 8 1
     -- L has no upper limit: such a card has too few good blocks
     ∷ shaped 2 9223372036854775808 1 6 4
     ∷ []

@@ -1,23 +1,13 @@
--- `card::power_up` meets its contract. Assumes nothing.
+-- `card::power_up` meets its contract: the promise of the shape that `Shape::of` gives.
 use borrow.Author.Needs.{needs}
-use Rattle.rules.specs.Facts.{imageOf}
-use Rattle.card.proofs.Shaped.{poweredUp-at}
 use Rattle.card.proofs.power_up.Statement.{statement}
 use Rattle.card.proofs.power_up.Tie as tie
 
-same-length : tie.Need-same-length
-same-length c = search needs
-
 returns : tie.Need-returns
 returns c =
-    let p₁ = c .before .before .before .before .before .before in
-    let p₂ = p₁ .before .before .before .before in
-    let start = p₂ .before .before .before .before in
-    let a = start .args in
-    poweredUp-at (p₂ .of .ensures) (imageOf (a .bytes .now) (a .spare .now)) (a .table .now) (a .cut) (p₁ .power-up .ensures)
+    let done : tie.After-power-up = search (c) in
+    let shape : tie.After-of = search (done) in
+    rw (shape .of .ensures) at (done .power-up .ensures)
 
 pub power-up-spec : {M : Type 1} → statement M
-power-up-spec =
-    tie.close
-    (tie.spec (λ c κs. search needs) (λ c κs. search needs) same-length (λ c. search needs) (λ c. search needs)
-    returns)
+power-up-spec = tie.close (tie.spec (λ c κs. search needs) (λ c κs. search needs) (λ c. search needs) (λ c. search needs) (λ c. search needs) returns)

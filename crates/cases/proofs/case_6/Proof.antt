@@ -1,4 +1,4 @@
--- `cases::case_6` is safe and ends. Assumes nothing.
+-- `cases::case_6` is safe and ends.
 use Prim.Native.Nat.{_-_, _≤_}
 use mathlib.Core.Path.{_≡_, refl}
 use native.Mathlib.Omega.{arith}

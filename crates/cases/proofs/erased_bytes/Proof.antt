@@ -1,4 +1,4 @@
--- `cases::erased_bytes` has that many bytes: by the law, since counting them takes a second. Assumes nothing.
+-- `cases::erased_bytes` has that many bytes: by the law, since counting them takes a second.
 use Prim.Native.Nat.{ℕ}
 use mathlib.Core.Path.{sym}
 use lib.ListN.{length-replicate}

@@ -1,4 +1,3 @@
--- `hamutsigra::hamutsigra_power_up` meets its contract. Assumes nothing.
 use mathlib.Core.Path.{sym, subst}
 use borrow.Author.Needs.{needs}
 use Rattle.hamutsigra.specs.Results.{InBits}
@@ -8,7 +7,8 @@ use Rattle.hamutsigra.proofs.hamutsigra_power_up.Tie as tie
 
 pack-requires : tie.Need-pack-requires
 pack-requires c κs =
-    subst InBits (sym (c .before .before .before .before .before .before .power-up .ensures .replied .answer)) (powerUpReply-fits _ _ _ _)
+    let done : tie.After-power-up = search (c) in
+    subst InBits (sym (done .power-up .ensures .replied .answer)) (powerUpReply-fits _ _ _ _)
 
 pub hamutsigra-power-up-spec : {M : Type 1} → statement M
 hamutsigra-power-up-spec =

@@ -1,4 +1,4 @@
--- `cases::lines::sum` is safe and ends. Assumes nothing.
+-- `cases::lines::sum` is safe and ends.
 use Prim.Native.Nat.{_≤_}
 use native.Mathlib.Omega.{arith}
 use lib.ListN.{length}

@@ -1,178 +1,134 @@
--- `content::holder::in_log` meets its contract. Assumes nothing.
 use mathlib.Core.Path.{_≡_, refl, sym, ap, _∙_, subst}
 use mathlib.Core.Logic.{⊎-elim}
-use mathlib.Core.Bool.{_&&_}
-use mathlib.Core.List.{List}
-use Prim.Native.Nat.{ℕ, _≤_, _<_, _-_, _+_, _*_}
+use mathlib.Core.List.{[]}
+use Prim.Native.Nat.{ℕ, _≤_, _<_, _-_}
 use native.Mathlib.Omega.{arith}
-use lib.Dec.{T, eqb}
+use lib.Dec.{T}
+use borrow.Author.Count.{below-more}
 use borrow.Author.Needs.{needs}
 use Rattle.rules.specs.declared.block.Block.{Block}
-use Rattle.rules.specs.declared.place.Place.{Place}
 use Rattle.rules.specs.declared.place.Place.the-variants.{Nowhere}
+use Rattle.rules.specs.Shape.{most}
 use Rattle.rules.specs.Facts.{imageOf}
-use Rattle.rules.specs.WellFormed.{blocksIn, isLive}
+use Rattle.rules.specs.WellFormed.{isLive}
 use Rattle.rules.specs.Content.{newest}
-use Rattle.rules.proofs.Sizes.{pages-most, page-within}
-use Rattle.laws.proofs.Tests.{true-is}
-use Rattle.roles.proofs.Passes.{blocksIn-none, isLive-by, of-logical}
-use Rattle.content.specs.Places.{ifBelow, PlaceIn}
-use Rattle.content.proofs.Places.{newest-next, newest-left, newest-found, ifBelow-in, inLog-found, inLog-none, log-next}
+use Rattle.words.specs.Words.{recordsIn}
+use Rattle.laws.proofs.Tests.{true-is, false-is}
+use Rattle.roles.proofs.Passes.{number-at, isLive-by, of-logical}
+use Rattle.content.specs.Places.{PlaceIn, pageIf}
+use Rattle.content.proofs.Places.{logOf, newest-next, newest-none, newest-found, log-found, log-none}
 use Rattle.content.proofs.holder.in_log.Statement.{statement}
 use Rattle.content.proofs.holder.in_log.Tie as tie
 
 abbrev Inv-loop : tie.InvT-loop
-Inv-loop s spare l o pages blocks b d first n i₀ i = (i ≤ n) × (n ≤ pages) × ((bytes : List ℕ) → newest s (imageOf bytes spare) b o n ≡ newest s
-    (imageOf bytes spare) b o i)
+Inv-loop s spare list numbers l o blocks b at d n i₀ i =
+    (i ≤ n) × (n ≤ s .pages) × (newest s (imageOf [] spare) b o n ≡ newest s (imageOf [] spare) b o i)
 
 abbrev μ-loop : tie.MeasureT-loop
-μ-loop s spare l o pages blocks b d first n i₀ i = i
+μ-loop s spare list numbers l o blocks b at d n i₀ i = i
 
 abbrev Inv-scan : tie.InvT-scan
-Inv-scan s spare l o list ds pages blocks found₀ b₀ found b = (b ≤ blocks) × (found ≡ Nowhere)
-    × ((j : ℕ) → j < b → T (isLive s (blocksIn list) j && eqb (blocksIn list j .logical) l) → ⊥)
+Inv-scan s spare list numbers l o blocks found₀ b₀ found b =
+    (b ≤ blocks) × (blocks ≤ most) × (found ≡ Nowhere) × ((j : ℕ) → j < b → T (logOf s (recordsIn list) l j) → ⊥)
 
 abbrev μ-scan : tie.MeasureT-scan
-μ-scan s spare l o list ds pages blocks found₀ b₀ found b = blocks - b
+μ-scan s spare list numbers l o blocks found₀ b₀ found b = blocks - b
 
-met : (c : tie.Joined2 Inv-loop μ-loop Inv-scan μ-scan) →
-    let args = c .before .before .before .before .before .before .before .before .before .args in
-    let scan = c .before .before .before .before .before .before .before .scan in
-    (c .if2 .at ≤ blocksIn (args .t3) (scan .b) .filled) × ((bytes : List ℕ) → ifBelow (c .if2 .at) (blocksIn (args .t3) (scan .b) .filled)
-    (scan .b * args .s .pages + c .if2 .at) ≡ newest (args .s) (imageOf bytes (args .spare .now)) (scan .b) (args .o) (blocksIn (args .t3)
-    (scan .b) .filled))
-met c =
-    let p₁ = c .before in
-    let p₂ = p₁ .before .before .before .before .before .before in
-    let start = p₂ .before .before in
-    let a = start .args in
-    let n = blocksIn (a .t3) (p₂ .scan .b) .filled in
-    ⊎-elim
-    (λ w. let q : c .if2 .at ≡ n = omega arith in (
-      omega arith,
-      λ bytes. newest-left (a .s) (a .spare .now) (p₂ .scan .b) (a .o) bytes (p₁ .loop .i) n
-          (c .if2 .at) (p₁ .loop .inv .2 bytes) (w .0 .taken) q,
-    ))
-    (λ w. let q : c .if2 .at ≡ p₁ .loop .i - 1 = omega arith in (
-      omega arith,
-      λ bytes. newest-found (a .s) (a .spare .now) (p₂ .scan .b) (a .o) bytes
-          (p₁ .loop .i) n (c .if2 .at) (p₁ .loop .inv .2 bytes) (omega arith) (omega arith) q (sym (w .1 .ensures) ∙ w .2 .taken),
-    ))
-    (c .if2 .came)
+abbrev start : tie.At-scan Inv-loop μ-loop Inv-scan μ-scan → tie.Start Inv-loop μ-loop Inv-scan μ-scan
+start t = search (t)
 
-mul-first : tie.Need-mul-first Inv-loop μ-loop Inv-scan μ-scan
-mul-first c =
-    let p₁ = c .before .before .before in
-    let start = p₁ .before .before .before in
-    let a = start .args in
-    omega (
-      arith,
-      pages-most (start .pre .0 .blocks-high) (start .pre .0 .pages-high),
-      page-within {i = 0} (p₁ .scan-test .taken)
-          (let z : 0 < a .s .pages = omega arith in z),
-    )
+element-copy-out-d : tie.Need-element-copy-out-d Inv-loop μ-loop Inv-scan μ-scan
+element-copy-out-d c =
+    let turn : tie.At-scan Inv-loop μ-loop Inv-scan μ-scan = search (c) in
+    number-at (start turn .pre .2) (turn .scan .b) (c .before .unpack .ensures) .0
+
+-- whether block b is the live log block
+log-is : (t : tie.After-is-log-of Inv-loop μ-loop Inv-scan μ-scan) →
+    let turn : tie.At-scan Inv-loop μ-loop Inv-scan μ-scan = search (t) in
+    let a = start turn .args in
+    t .is-log-of .result ≡ logOf (a .s) (recordsIn (a .list .now)) (a .l) (turn .scan .b)
+log-is t =
+    let read : tie.After-unpack Inv-loop μ-loop Inv-scan μ-scan = search (t) in
+    let turn : tie.At-scan Inv-loop μ-loop Inv-scan μ-scan = search (read) in
+    let s = start turn .args .s in
+    let k = recordsIn (start turn .args .list .now) in
+    let b = turn .scan .b in
+    let x = read .unpack .ensures in
+    of-logical k b (start turn .args .l) (isLive s k) x (isLive-by s k b x (number-at (start turn .pre .2) b x .1) refl) (t .is-log-of .ensures)
 
 loop-holds : tie.Need-loop-holds Inv-loop μ-loop Inv-scan μ-scan
 loop-holds c =
-    let p₁ = c .before .before .before .before .before in
-    let start = p₁ .before .before in
-    (omega arith, start .pre .3 .at (p₁ .scan .b), λ bytes. refl)
+    let read : tie.After-unpack Inv-loop μ-loop Inv-scan μ-scan = search (c) in
+    let turn : tie.At-scan Inv-loop μ-loop Inv-scan μ-scan = search (read) in
+    let fits = start turn .pre .2 .recorded .fits (turn .scan .b) in
+    (omega arith, omega (arith, ap (λ (x : Block). x .filled) (read .unpack .ensures)), refl)
 
-add-offset-at : tie.Need-add-offset-at Inv-loop μ-loop Inv-scan μ-scan
-add-offset-at c =
-    let p₁ = c .before .before .before .before .before .before in
-    let start = p₁ .before .before .before in
-    let a = start .args in
-    omega (
-      arith,
-      pages-most (start .pre .0 .blocks-high) (start .pre .0 .pages-high),
-      page-within {i = 0} (p₁ .scan-test .taken)
-          (let z : 0 < a .s .pages = omega arith in z),
-    )
-
-offset-at-requires : tie.Need-offset-at-requires Inv-loop μ-loop Inv-scan μ-scan
-offset-at-requires c κs =
-    let p₁ = c .before .before .before .before .before .before in
-    let start = p₁ .before .before .before in
-    let a = start .args in
-    (start .pre .0, start .pre .1, page-within (p₁ .scan-test .taken) (let z : c .before .loop .i - 1 < a .s .pages = omega arith in z))
+-- where the search leaves, by either way
+left : (t : tie.Joined2 Inv-loop μ-loop Inv-scan μ-scan) →
+    let read : tie.After-unpack Inv-loop μ-loop Inv-scan μ-scan = search (t) in
+    let turn : tie.At-scan Inv-loop μ-loop Inv-scan μ-scan = search (read) in
+    let a = start turn .args in
+    let n = read .unpack .result .filled in
+    pageIf (a .s) (turn .scan .b) (t .if2 .position) n ≡ newest (a .s) (imageOf [] (a .spare .now)) (turn .scan .b) (a .o) n
+left t =
+    let here = t .before .loop in
+    let turn : tie.At-scan Inv-loop μ-loop Inv-scan μ-scan = search (t) in
+    let a = start turn .args in
+    ⊎-elim (λ w. newest-none (a .s) (a .spare .now) (turn .scan .b) (a .o) (here .inv .2) (w .0 .taken) (omega arith))
+    (λ w. newest-found (a .s) (a .spare .now) (turn .scan .b) (a .o) (here .inv .2) (omega arith) (here .inv .0) (omega arith)
+    (sym (w .1 .ensures) ∙ w .2 .taken))
+    (t .if2 .came)
 
 loop-again : tie.Need-loop-again Inv-loop μ-loop Inv-scan μ-scan
 loop-again c =
-    let p₁ = c .before .before .before in
-    let p₂ = p₁ .before .before .before .before .before .before in
-    let start = p₂ .before .before in
-    let a = start .args in (
+    let here : tie.At-loop Inv-loop μ-loop Inv-scan μ-scan = search (c) in
+    let turn : tie.At-scan Inv-loop μ-loop Inv-scan μ-scan = search (here) in
+    let a = start turn .args in (
       omega arith,
-      p₁ .loop .inv .1,
-      λ bytes. p₁ .loop .inv .2 bytes ∙ newest-next (a .s) (a .spare .now) (p₂ .scan .b) (a .o) bytes (p₁ .loop .i) (omega arith)
+      here .loop .inv .1,
+      here .loop .inv .2 ∙ newest-next (a .s) (a .spare .now) (turn .scan .b) (a .o) (here .loop .i) (omega arith)
           (λ e. c .if3 .left (c .before .offset-at .ensures ∙ e)),
-    )
-
-add-place-if : tie.Need-add-place-if Inv-loop μ-loop Inv-scan μ-scan
-add-place-if c =
-    let p₁ = c .before .before .before .before .before .before .before in
-    let start = p₁ .before .before .before in
-    let a = start .args in
-    let m = met (c .before) .0 in
-    omega (
-      arith,
-      pages-most (start .pre .0 .blocks-high) (start .pre .0 .pages-high),
-      page-within {i = 0} (p₁ .scan-test .taken)
-          (let z : 0 < a .s .pages = omega arith in z),
     )
 
 scan-again : tie.Need-scan-again Inv-loop μ-loop Inv-scan μ-scan
 scan-again c =
-    let p₁ = c .before .before .before .before in
-    let start = p₁ .before .before in
-    let a = start .args in
-    let e = of-logical (blocksIn (a .t3)) (p₁ .scan .b) (a .l) (isLive (a .s) (blocksIn (a .t3))) (isLive-by (a .s) (blocksIn (a .t3)) (p₁ .scan .b)
-    (start .pre .2 .at (p₁ .scan .b) (omega arith)) refl) (c .before .is-log-of .ensures) in (
+    let turn : tie.At-scan Inv-loop μ-loop Inv-scan μ-scan = search (c) in
+    let a = start turn .args in (
       omega arith,
-      p₁ .scan .inv .1,
-      log-next (λ j. isLive (a .s) (blocksIn (a .t3)) j && eqb (blocksIn (a .t3) j .logical) (a .l)) (p₁ .scan .b)
-          (p₁ .scan .inv .2) (sym e ∙ c .if1 .left),
+      turn .scan .inv .1,
+      turn .scan .inv .2,
+      below-more (λ j. T (logOf (a .s) (recordsIn (a .list .now)) (a .l) j) → ⊥) (turn .scan .b) (turn .scan .inv .3)
+          (false-is _ (sym (log-is (c .before)) ∙ c .if1 .left)),
     )
 
 returns : tie.Need-returns Inv-loop μ-loop Inv-scan μ-scan
 returns c =
-    let p₁ = c .before in
-    let start = p₁ .before .before in
-    let a = start .args in
-    let z : p₁ .scan .b ≡ a .s .blocks = omega arith in
-    inLog-none (a .s) (blocksIn (a .t3)) (a .l) (start .pre .0 .blocks-high) (a .spare .now) (a .o) (ap (λ (x : Block). x .filled) (blocksIn-none
-    (a .t3)
-    (search needs))) (p₁ .scan .inv .1) (λ j h. p₁ .scan .inv .2 j (omega arith))
+    let turn = c .before in
+    let inv = turn .scan .inv in
+    let a = start turn .args in (
+      inv .2 ∙ log-none (a .s) (a .spare .now) (a .l) (a .o) (start turn .pre .2 .recorded) (λ j h. inv .3 j (omega arith)),
+      subst (PlaceIn (a .s)) (sym (inv .2)) tt,
+    )
 
 returns-2 : tie.Need-returns-2 Inv-loop μ-loop Inv-scan μ-scan
 returns-2 c =
-    let p₁ = c .before .before in
-    let p₂ = p₁ .before .before .before in
-    let p₃ = p₂ .before in
-    let p₄ = p₃ .before .before in
-    let p₅ = p₄ .before in
-    let start = p₅ .before .before in
-    let a = start .args in
-    let e = of-logical (blocksIn (a .t3)) (p₅ .scan .b) (a .l) (isLive (a .s) (blocksIn (a .t3))) (isLive-by (a .s) (blocksIn (a .t3)) (p₅ .scan .b)
-    (start .pre .2 .at (p₅ .scan .b) (omega arith)) refl) (p₃ .is-log-of .ensures) in
-    let m = met (c .before .before) in
-    inLog-found (a .s) (blocksIn (a .t3)) (a .l) (start .pre .0 .blocks-high) (a .spare .now) (a .o) (p₅ .scan .b) (p₄ .scan-test .taken)
-    (p₅ .scan .inv .2)
-    (true-is _ (sym e ∙ p₂ .if1 .taken)) refl
-    (subst (λ (q : Place). PlaceIn q (a .s .blocks * a .s .pages)) (sym (c .place-if .ensures)) (ifBelow-in (p₁ .if2 .at) (blocksIn (a .t3)
-    (p₅ .scan .b) .filled) _ _ (λ h. page-within (omega arith) (let z : p₁ .if2 .at < a .s .pages = omega (
-      arith,
-      start .pre .3 .at
-          (p₅ .scan .b),
-    ) in z))))
-    (λ bytes. c .place-if .ensures ∙ m .1 bytes)
+    let log : tie.Then1 Inv-loop μ-loop Inv-scan μ-scan = search (c) in
+    let read : tie.After-unpack Inv-loop μ-loop Inv-scan μ-scan = search (log) in
+    let inside : tie.In-scan Inv-loop μ-loop Inv-scan μ-scan = search (read) in
+    let turn = inside .before in
+    let a = start turn .args in
+    let b = turn .scan .b in (
+      c .page-if .ensures .0 ∙ left (c .before)
+          ∙ ap (λ (x : Block). newest (a .s) (imageOf [] (a .spare .now)) b (a .o) (x .filled)) (read .unpack .ensures)
+          ∙ log-found (a .s) (a .spare .now) (a .l) (a .o) (start turn .pre .2 .recorded) b (inside .scan-test .taken) (turn .scan .inv .3)
+          (true-is _ (sym (log-is (log .before)) ∙ log .if1 .taken)),
+      c .page-if .ensures .1,
+    )
 
 pub in-log-spec : {M : Type 1} → statement M
 in-log-spec =
     tie.close
-    (tie.spec Inv-loop μ-loop Inv-scan μ-scan (λ c. (omega arith, refl, λ j h t. omega arith))
-    (λ c. search needs) (λ c. search needs) (λ c. search needs) (λ c. search needs) (λ c κs. search needs)
-    mul-first (λ c. search needs) loop-holds (λ c. search needs) add-offset-at offset-at-requires
-    (λ c. search needs) loop-again add-place-if (λ c κs. search needs) (λ c. search needs) (λ c. search needs)
-    scan-again returns returns-2)
+    (tie.spec Inv-loop μ-loop Inv-scan μ-scan (λ c. (omega arith, c .before .pre .2 .recorded .few, refl, λ j h t. omega arith))
+    (λ c. search needs) (λ c. search needs) (λ c κs. search needs) (λ c. search needs) (λ c. search needs) element-copy-out-d
+    (λ c κs. search needs) (λ c. search needs) loop-holds (λ c. search needs) (λ c κs. search needs) (λ c. search needs) loop-again
+    (λ c κs. search needs) (λ c. search needs) (λ c. search needs) scan-again returns returns-2)

@@ -1,4 +1,3 @@
--- `content::holder::is_log_of` meets its contract. Assumes nothing.
 use mathlib.Core.Path.{refl}
 use borrow.Author.Needs.{needs}
 use Rattle.laws.proofs.Tests.{and-is}
@@ -6,7 +5,9 @@ use Rattle.content.proofs.holder.is_log_of.Statement.{statement}
 use Rattle.content.proofs.holder.is_log_of.Tie as tie
 
 returns : tie.Need-returns
-returns c = and-is (c .and .ensures) (c .before .before .is-live .ensures) refl
+returns c =
+    let live : tie.After-is-live = search (c) in
+    and-is (c .and .ensures) (live .is-live .ensures) refl
 
 pub is-log-of-spec : {M : Type 1} → statement M
 is-log-of-spec = tie.close (tie.spec (λ c κs. search needs) (λ c. search needs) (λ c κs. search needs) returns)

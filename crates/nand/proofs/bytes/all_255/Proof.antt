@@ -1,4 +1,4 @@
--- The loop's invariant: the bytes before i are all 255, so the answer is that of the bytes from i on. Assumes nothing.
+-- The loop's invariant: the bytes before i are all 255, so the answer is that of the bytes from i on.
 use mathlib.Core.Path.{_≡_, refl, sym, _∙_}
 use Prim.Native.Nat.{_-_, _≤_}
 use native.Mathlib.Omega.{arith}

@@ -1,4 +1,4 @@
--- The loop's invariant: the first i bytes are those of `from`. Assumes nothing.
+-- The loop's invariant: the first i bytes are those of `from`.
 use mathlib.Core.Path.{_≡_, refl, sym, ap, _∙_}
 use mathlib.Core.List.{List, [], _∷_, _++_}
 use Prim.Native.Nat.{ℕ, _-_, _≤_}

@@ -1,11 +1,9 @@
--- The loop's invariant: the first i bytes are 255. Assumes nothing.
-use mathlib.Core.Path.{_≡_, refl, sym, ap, _∙_}
-use mathlib.Core.List.{List, [], _∷_, _++_}
-use Prim.Native.Nat.{ℕ, suc, _-_, _≤_}
+-- The loop's invariant: the first i bytes are 255.
+use mathlib.Core.Path.{_≡_, refl}
+use Prim.Native.Nat.{_-_, _≤_}
 use native.Mathlib.Omega.{arith}
-use native.Mathlib.Numerals.{add-one}
-use lib.ListN.{length, take, replicate, set, length-set, replicate-append-replicate}
-use lib.Seq.{take-suc-set, take-all}
+use lib.ListN.{length, take, replicate, length-set}
+use Rattle.laws.proofs.Arrays.{filled-more, filled-all}
 use Rattle.nand.proofs.bytes.fill_255.Statement.{statement}
 use Rattle.nand.proofs.bytes.fill_255.Tie as tie
 
@@ -17,22 +15,11 @@ abbrev μ-loop : tie.MeasureT-loop
 
 loop-again : tie.Need-loop-again Inv-loop μ-loop
 loop-again c =
-    let at-loop = c .before in
-    let s = at-loop .loop .s in
-    let i = at-loop .loop .i in
-    let more : take (suc i) (set s i 255) ≡ take i s ++ (255 ∷ []) = take-suc-set s i 255 (omega arith) in (
-      omega arith,
-      simp length-set (at-loop .loop .inv .1),
-      ap (λ (k : ℕ). take k (set s i 255)) (add-one i) ∙ more ∙ ap (λ (l : List ℕ). l ++ (255 ∷ [])) (at-loop .loop .inv .2)
-          ∙ replicate-append-replicate i 1 255,
-    )
+    let turn = c .before .loop in
+    (omega arith, simp length-set (turn .inv .1), filled-more 255 (turn .s) (turn .i) (omega arith) refl (turn .inv .2))
 
 returns : tie.Need-returns Inv-loop μ-loop
-returns c =
-    let at-loop = c .before in
-    let i = at-loop .loop .i in
-    let all : i ≡ length (at-loop .before .args .s .now) = omega arith in
-    sym (take-all i (at-loop .loop .s) (omega arith)) ∙ at-loop .loop .inv .2 ∙ ap (λ (k : ℕ). replicate k 255) all
+returns c = let turn = c .before .loop in filled-all 255 (turn .s) (turn .i) (omega arith) (turn .inv .1) (turn .inv .2)
 
 pub fill-255-spec : {M : Type 1} → statement M
 fill-255-spec =

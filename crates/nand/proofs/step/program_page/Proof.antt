@@ -1,4 +1,3 @@
--- Assumes nothing.
 use Prim.Native.Nat.{_*_}
 use borrow.Author.Needs.{needs}
 use Rattle.rules.specs.Steps.{stepDone}

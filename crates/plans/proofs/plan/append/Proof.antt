@@ -1,7 +1,5 @@
--- `plans::plan::append` meets its contract. Assumes nothing.
 use borrow.Author.Needs.{needs}
-use Rattle.rules.specs.WellFormed.{blocksIn}
-use Rattle.plans.proofs.Choosing.{room-plan}
+use Rattle.plans.proofs.Choosing.{append-plan}
 use Rattle.plans.proofs.plan.append.Statement.{statement}
 use Rattle.plans.proofs.plan.append.Tie as tie
 
@@ -10,15 +8,15 @@ and-requires c κs = search needs
 
 returns : tie.Need-returns
 returns c =
-    let p₁ = c .before .before in
-    let p₂ = p₁ .before .before in
-    let start = p₂ .before in
+    let former : tie.After-block-if = search (c) in
+    let whole : tie.After-and2 = search (former) in
+    let next : tie.After-and = search (whole) in
+    let start : tie.Start = search (next) in
     let a = start .args in
-    room-plan (a .s) (blocksIn (a .list)) (a .v) (a .a) (a .base) (p₂ .record-at .ensures) (p₁ .and .ensures) (c .before .and2 .ensures)
-    (c .block-if .ensures)
+    append-plan (a .s) (a .x) (a .v) (a .d) (a .a) (next .and .ensures) (whole .and2 .ensures) (former .block-if .ensures) (c .unmerged .ensures)
 
 pub append-spec : {M : Type 1} → statement M
 append-spec =
     tie.close
-    (tie.spec (λ c κs. search needs) (λ c. search needs) (λ c. search needs) (λ c. search needs) and-requires
+    (tie.spec (λ c. search needs) (λ c. search needs) and-requires (λ c. search needs) (λ c κs. search needs)
     (λ c κs. search needs) (λ c κs. search needs) returns)

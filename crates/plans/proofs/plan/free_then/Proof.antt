@@ -1,8 +1,9 @@
--- `plans::plan::free_then` meets its contract. Assumes nothing.
-use mathlib.Core.Path.{refl}
+use mathlib.Core.Path.{refl, ap, _∙_}
 use mathlib.Core.Bool.{not}
 use lib.Dec.{eqb}
 use borrow.Author.Needs.{needs}
+use Rattle.rules.specs.declared.block.Block.{Block}
+use Rattle.rules.specs.WellFormed.{isFree}
 use Rattle.laws.proofs.Tests.{and-is, or-is}
 use Rattle.plans.proofs.plan.free_then.Statement.{statement}
 use Rattle.plans.proofs.plan.free_then.Tie as tie
@@ -12,12 +13,17 @@ or-requires c κs = search needs
 
 returns : tie.Need-returns
 returns c =
-    let freed = c .before in
-    let a = freed .before .before .before .before .args in
-    and-is {a = not (eqb (a .j) (a .f))} (c .and .ensures) refl (or-is (freed .or2 .ensures) (or-is (freed .before .or .ensures) (freed .before .before .is-free .ensures) refl) refl)
+    let some : tie.After-or2 = search (c) in
+    let free : tie.After-is-free = search (some) in
+    let erased : tie.After-or = search (free) in
+    let x : tie.After-unpack = search (erased) in
+    let start : tie.Start = search (x) in
+    let a = start .args in
+    and-is {a = not (eqb (a .j) (a .f))} (c .and .ensures) refl
+    (or-is (some .or2 .ensures) (erased .or .ensures) (free .is-free .ensures ∙ ap (λ (y : Block). isFree (y .state)) (x .unpack .ensures)))
 
 pub free-then-spec : {M : Type 1} → statement M
 free-then-spec =
     tie.close
     (tie.spec (λ c. search needs) (λ c. search needs) (λ c κs. search needs) or-requires (λ c κs. search needs)
-    (λ c κs. search needs) returns)
+    (λ c κs. search needs) (λ c κs. search needs) returns)

@@ -1,54 +1,57 @@
--- `plans::plan::of` meets its contract. Assumes nothing.
 use borrow.Author.Needs.{needs}
-use Rattle.rules.specs.WellFormed.{blocksIn}
+use Rattle.words.specs.Words.{recordsIn}
 use Rattle.plans.proofs.Choosing.{of-room, of-full, of-fresh, of-victim}
 use Rattle.plans.proofs.plan.of.Statement.{statement}
 use Rattle.plans.proofs.plan.of.Tie as tie
 
+append-requires : tie.Need-append-requires
+append-requires c κs = search needs
+
 returns : tie.Need-returns
 returns c =
-    let p₁ = c .before .before .before in
-    let p₂ = p₁ .before in
-    let p₃ = p₂ .before in
-    let start = p₃ .before in
+    let room : tie.Then2 = search (c) in
+    let x : tie.After-record-at = search (room) in
+    let some : tie.Then1 = search (x) in
+    let here : tie.After-of = search (some) in
+    let start : tie.Start = search (here) in
     let a = start .args in
-    of-room (a .s) (blocksIn (a .list)) (a .a) (p₃ .of .ensures) (p₂ .if1 .taken) (p₁ .record-at .ensures) (c .before .if2 .taken)
+    of-room (a .s) (recordsIn (a .list .now)) (a .a) (here .of .ensures) (some .if1 .taken) (x .record-at .ensures) (room .if2 .taken)
     (c .append .ensures)
-
-merge-first-requires : tie.Need-merge-first-requires
-merge-first-requires c κs = search needs
 
 returns-2 : tie.Need-returns-2
 returns-2 c =
-    let p₁ = c .before .before .before in
-    let p₂ = p₁ .before in
-    let p₃ = p₂ .before in
-    let start = p₃ .before in
+    let full : tie.Else2 = search (c) in
+    let x : tie.After-record-at = search (full) in
+    let some : tie.Then1 = search (x) in
+    let here : tie.After-of = search (some) in
+    let start : tie.Start = search (here) in
     let a = start .args in
-    of-full (a .s) (blocksIn (a .list)) (a .a) (p₃ .of .ensures) (p₂ .if1 .taken) (p₁ .record-at .ensures) (c .before .if2 .left)
+    of-full (a .s) (recordsIn (a .list .now)) (a .a) (here .of .ensures) (some .if1 .taken) (x .record-at .ensures) (full .if2 .left)
     (c .merge-first .ensures)
 
 returns-3 : tie.Need-returns-3
 returns-3 c =
-    let p₁ = c .before .before .before .before in
-    let p₂ = p₁ .before in
-    let start = p₂ .before in
+    let few : tie.Then3 = search (c) in
+    let none : tie.Else1 = search (few) in
+    let here : tie.After-of = search (none) in
+    let start : tie.Start = search (here) in
     let a = start .args in
-    of-fresh (a .s) (blocksIn (a .list)) (a .a) (p₂ .of .ensures) (p₁ .if1 .left) (start .pre .2) (c .before .if3 .taken) (c .fresh .ensures)
+    of-fresh (a .s) (recordsIn (a .list .now)) (a .a) (here .of .ensures) (start .pre .2) (none .if1 .left) (few .if3 .taken) (c .unmerged .ensures)
 
 returns-4 : tie.Need-returns-4
 returns-4 c =
-    let p₁ = c .before .before in
-    let p₂ = p₁ .before .before .before in
-    let p₃ = p₂ .before in
-    let start = p₃ .before in
+    let victim : tie.After-oldest = search (c) in
+    let most : tie.Else3 = search (victim) in
+    let none : tie.Else1 = search (most) in
+    let here : tie.After-of = search (none) in
+    let start : tie.Start = search (here) in
     let a = start .args in
-    of-victim (a .s) (blocksIn (a .list)) (a .a) (p₃ .of .ensures) (p₂ .if1 .left) (start .pre .2) (p₁ .if3 .left) (c .before .oldest .ensures)
-    (c .merge-first2 .ensures)
+    of-victim (a .s) (recordsIn (a .list .now)) (a .a) (here .of .ensures) (start .pre .2) (none .if1 .left) (most .if3 .left)
+    (victim .oldest .ensures) (c .merge-first2 .ensures)
 
 pub of-spec : {M : Type 1} → statement M
 of-spec =
     tie.close
     (tie.spec (λ c. search needs) (λ c κs. search needs) (λ c κs. search needs) (λ c. search needs)
-    (λ c κs. search needs) returns merge-first-requires returns-2 (λ c κs. search needs) returns-3
-    (λ c κs. search needs) (λ c κs. search needs) returns-4)
+    append-requires returns (λ c κs. search needs) returns-2 (λ c κs. search needs) returns-3
+    (λ c κs. search needs) (λ c κs. search needs) (λ c κs. search needs) returns-4)

@@ -1,4 +1,3 @@
--- `roles::seats::of` meets its contract. Assumes nothing.
 use mathlib.Core.Path.{_≡_, ap, _∙_}
 use mathlib.Core.Bool.{_&&_}
 use Prim.Native.Nat.{ℕ, _≤_, _-_}
@@ -6,18 +5,31 @@ use native.Mathlib.Omega.{arith}
 use lib.Dec.{eqb}
 use borrow.Author.Needs.{needs}
 use Rattle.rules.specs.Below.{firstBelow}
-use Rattle.rules.specs.WellFormed.{blocksIn, isData, isLive}
+use Rattle.rules.specs.WellFormed.{isData, isLive}
+use Rattle.words.specs.Words.{recordsIn}
 use Rattle.laws.proofs.Below.{first-turn, firstBelow-zero}
-use Rattle.roles.proofs.Passes.{isData-by, isLive-by, of-logical, seatsTo-is}
+use Rattle.roles.proofs.Passes.{isData-by, isLive-by, of-logical, seatsTo-is, number-at}
 use Rattle.roles.proofs.seats.of.Statement.{statement}
 use Rattle.roles.proofs.seats.of.Tie as tie
 
 abbrev Inv-loop : tie.InvT-loop
-Inv-loop s l list ds blocks base₀ log₀ j₀ base log j = (j ≤ blocks) × (base ≡ firstBelow j (λ i. isData s (blocksIn list) i && eqb
-    (blocksIn list i .logical) l)) × (log ≡ firstBelow j (λ i. isLive s (blocksIn list) i && eqb (blocksIn list i .logical) l))
+Inv-loop s list numbers l blocks held₀ log₀ j₀ held log j = (j ≤ blocks) × (held ≡ firstBelow j (λ i. isData s (recordsIn list) i && eqb (recordsIn list i .logical) l)) × (log ≡ firstBelow j (λ i. isLive s (recordsIn list) i && eqb (recordsIn list i .logical) l))
 
 abbrev μ-loop : tie.MeasureT-loop
-μ-loop s l list ds blocks base₀ log₀ j₀ base log j = blocks - j
+μ-loop s list numbers l blocks held₀ log₀ j₀ held log j = blocks - j
+
+element-copy-out-unpack : tie.Need-element-copy-out-unpack Inv-loop μ-loop
+element-copy-out-unpack c =
+    let start : tie.Start Inv-loop μ-loop = search (c) in
+    let h = start .pre .recorded .few in
+    omega arith
+
+element-copy-out-d : tie.Need-element-copy-out-d Inv-loop μ-loop
+element-copy-out-d c =
+    let start : tie.Start Inv-loop μ-loop = search (c) in
+    let turn : tie.At-loop Inv-loop μ-loop = search (c) in
+    let x : tie.After-unpack Inv-loop μ-loop = search (c) in
+    number-at (start .pre) (turn .loop .j) (x .unpack .ensures) .0
 
 and-requires : tie.Need-and-requires Inv-loop μ-loop
 and-requires c κs = search needs
@@ -27,38 +39,41 @@ first-of-requires c κs = search needs
 
 loop-again : tie.Need-loop-again Inv-loop μ-loop
 loop-again c =
-    let p₁ = c .before .before in
-    let p₂ = p₁ .before in
-    let p₃ = p₂ .before in
-    let p₄ = p₃ .before in
-    let p₅ = p₄ .before .before .before .before in
-    let start = p₅ .before in
-    let a = start .args in
-    let k = blocksIn (a .t2) in
-    let number = start .pre .1 .at (p₅ .loop .j) (omega arith) in
-    let d = of-logical k (p₅ .loop .j) (a .l) (isData (a .s) k) (isData-by (a .s) k (p₅ .loop .j) number (p₄ .is-data .ensures)) (p₃ .and .ensures) in
-    let g = of-logical k (p₅ .loop .j) (a .l) (isLive (a .s) k) (isLive-by (a .s) k (p₅ .loop .j) number (p₁ .is-live .ensures))
-    (c .before .and2 .ensures) in (
+    let start : tie.Start Inv-loop μ-loop = search (c) in
+    let turn : tie.At-loop Inv-loop μ-loop = search (c) in
+    let x : tie.After-unpack Inv-loop μ-loop = search (c) in
+    let data-of : tie.After-is-data Inv-loop μ-loop = search (c) in
+    let data-here : tie.After-and Inv-loop μ-loop = search (c) in
+    let first-data : tie.After-first-of Inv-loop μ-loop = search (c) in
+    let live-of : tie.After-is-live Inv-loop μ-loop = search (c) in
+    let live-here : tie.After-and2 Inv-loop μ-loop = search (c) in
+    let s = start .args .s in
+    let l = start .args .l in
+    let k = recordsIn (start .args .list .now) in
+    let j = turn .loop .j in
+    let number = number-at (start .pre) j (x .unpack .ensures) .1 in
+    let d = of-logical k j l (isData s k) (x .unpack .ensures) (isData-by s k j (x .unpack .ensures) number (data-of .is-data .ensures)) (data-here .and .ensures) in
+    let g = of-logical k j l (isLive s k) (x .unpack .ensures) (isLive-by s k j (x .unpack .ensures) number (live-of .is-live .ensures)) (live-here .and2 .ensures) in (
       omega arith,
-      first-turn (λ i. isData (a .s) k i && eqb (k i .logical) (a .l)) (p₅ .loop .j) (p₅ .loop .inv .1) d (p₂ .first-of .ensures),
-      first-turn (λ i. isLive (a .s) k i && eqb (k i .logical) (a .l)) (p₅ .loop .j) (p₅ .loop .inv .2) g (c .first-of2 .ensures),
+      first-turn (λ i. isData s k i && eqb (k i .logical) l) j (turn .loop .inv .1) d (first-data .first-of .ensures),
+      first-turn (λ i. isLive s k i && eqb (k i .logical) l) j (turn .loop .inv .2) g (c .first-of2 .ensures),
     )
 
 returns : tie.Need-returns Inv-loop μ-loop
 returns c =
-    let p₁ = c .before in
-    let start = p₁ .before in
-    let a = start .args in
-    let n : p₁ .loop .j ≡ a .s .blocks = omega arith in
-    let k = blocksIn (a .t2) in
-    seatsTo-is (a .s) k (a .l) (a .s .blocks) (p₁ .loop .inv .1 ∙ ap (λ (m : ℕ). firstBelow m (λ i. isData (a .s) k i && eqb (k i .logical)
-    (a .l))) n)
-    (p₁ .loop .inv .2 ∙ ap (λ (m : ℕ). firstBelow m (λ i. isLive (a .s) k i && eqb (k i .logical) (a .l))) n)
+    let start : tie.Start Inv-loop μ-loop = search (c) in
+    let turn : tie.At-loop Inv-loop μ-loop = search (c) in
+    let s = start .args .s in
+    let l = start .args .l in
+    let k = recordsIn (start .args .list .now) in
+    let n : turn .loop .j ≡ s .blocks = omega arith in
+    seatsTo-is s k l (s .blocks) (turn .loop .inv .1 ∙ ap (λ (m : ℕ). firstBelow m (λ i. isData s k i && eqb (k i .logical) l)) n)
+    (turn .loop .inv .2 ∙ ap (λ (m : ℕ). firstBelow m (λ i. isLive s k i && eqb (k i .logical) l)) n)
 
 pub of-spec : {M : Type 1} → statement M
 of-spec =
     tie.close
     (tie.spec Inv-loop μ-loop (λ c. (omega arith, firstBelow-zero _, firstBelow-zero _)) (λ c. search needs)
-    (λ c. search needs) (λ c. search needs) (λ c. search needs) (λ c. search needs) (λ c κs. search needs)
-    and-requires first-of-requires (λ c κs. search needs) (λ c κs. search needs) (λ c κs. search needs)
-    (λ c. search needs) (λ c. search needs) loop-again returns)
+    element-copy-out-unpack (λ c κs. search needs) (λ c. search needs) (λ c. search needs) element-copy-out-d
+    (λ c κs. search needs) and-requires first-of-requires (λ c κs. search needs) (λ c κs. search needs)
+    (λ c κs. search needs) (λ c. search needs) (λ c. search needs) loop-again returns)

@@ -1,77 +1,67 @@
--- `roles::table::fill` meets its contract. Assumes nothing.
-use mathlib.Core.Path.{_≡_, refl, _∙_}
-use mathlib.Core.Logic.{inl, inr}
-use mathlib.Core.List.{_++_}
-use Prim.Native.Nat.{_≤_, _-_, _*_}
+use Prim.Native.Nat.{_≤_, _-_}
 use native.Mathlib.Omega.{arith}
-use lib.ListN.{length, drop, length-set}
 use borrow.Author.Needs.{needs}
-use Rattle.rules.specs.WellFormed.{blocksIn}
-use Rattle.rules.specs.Replies.{tableOf}
-use Rattle.roles.proofs.Seating.{seats-base, seats-log, dataBlock-in, liveLog-in}
-use Rattle.roles.proofs.Entries.{table-none, table-turn, table-all}
+use Rattle.words.specs.Words.{recordsIn}
+use Rattle.roles.proofs.Passes.{number-at}
+use Rattle.roles.proofs.Entries.{TableTo, table-none, table-turn, table-all}
 use Rattle.roles.proofs.table.fill.Statement.{statement}
 use Rattle.roles.proofs.table.fill.Tie as tie
 
 abbrev Inv-loop : tie.InvT-loop
-Inv-loop table₀ s list ds logical l₀ table l = (l ≤ logical) × (length table ≡ length table₀)
-    × (table ≡ tableOf s (blocksIn list) l ++ drop (2 * l) table₀)
+Inv-loop table₀ s list numbers blocks j₀ table j = (j ≤ blocks) × TableTo s (recordsIn list) table j
 
 abbrev μ-loop : tie.MeasureT-loop
-μ-loop table₀ s list ds logical l₀ table l = logical - l
+μ-loop table₀ s list numbers blocks j₀ table j = blocks - j
 
 loop-holds : tie.Need-loop-holds Inv-loop μ-loop
 loop-holds c =
-    let a = c .before .args in
-    (omega arith, refl, table-none (a .s) (blocksIn (a .list)) (a .table .now))
-
-narrow-requires : tie.Need-narrow-requires Inv-loop μ-loop
-narrow-requires c κs =
-    let p₁ = c .before .before in
-    let start = p₁ .before .before in
+    let start : tie.Start Inv-loop μ-loop = search (c) in
+    let cleared : tie.After-clear Inv-loop μ-loop = search (c) in
     let a = start .args in
-    elim (dataBlock-in (a .s) (blocksIn (a .list)) (p₁ .loop .l) (start .pre .0) (seats-base (a .s) (blocksIn (a .list)) _
-    (c .of .ensures))) [ inl h ↦ omega arith | inr e ↦ omega arith ]
+    (omega arith, table-none (a .s) (recordsIn (a .list .now)) (a .table .now) (start .pre .0) (cleared .clear .ensures))
 
-mul-table : tie.Need-mul-table Inv-loop μ-loop
-mul-table c = search needs
+element-copy-out-unpack : tie.Need-element-copy-out-unpack Inv-loop μ-loop
+element-copy-out-unpack c =
+    let start : tie.Start Inv-loop μ-loop = search (c) in
+    let few = start .pre .1 .recorded .few in
+    omega arith
 
-slice-write-table : tie.Need-slice-write-table Inv-loop μ-loop
-slice-write-table c = omega arith
+element-copy-out-d : tie.Need-element-copy-out-d Inv-loop μ-loop
+element-copy-out-d c =
+    let start : tie.Start Inv-loop μ-loop = search (c) in
+    let turn : tie.At-loop Inv-loop μ-loop = search (c) in
+    let x : tie.After-unpack Inv-loop μ-loop = search (c) in
+    number-at (start .pre .1) (turn .loop .j) (x .unpack .ensures) .0
 
-narrow-requires-2 : tie.Need-narrow-requires-2 Inv-loop μ-loop
-narrow-requires-2 c κs =
-    let p₁ = c .before .before .before in
-    let start = p₁ .before .before in
-    let a = start .args in
-    elim (liveLog-in (a .s) (blocksIn (a .list)) (p₁ .loop .l) (start .pre .0) (seats-log (a .s) (blocksIn (a .list)) _
-    (c .before .of .ensures))) [ inl h ↦ omega arith | inr e ↦ omega arith ]
+enter-requires : tie.Need-enter-requires Inv-loop μ-loop
+enter-requires c κs =
+    let start : tie.Start Inv-loop μ-loop = search (c) in
+    let turn : tie.At-loop Inv-loop μ-loop = search (c) in
+    let few = start .pre .1 .recorded .few in
+    (turn .loop .inv .1 .long, omega arith)
 
 loop-again : tie.Need-loop-again Inv-loop μ-loop
 loop-again c =
-    let p₁ = c .before .before in
-    let p₂ = p₁ .before .before in
-    let start = p₂ .before .before in
+    let start : tie.Start Inv-loop μ-loop = search (c) in
+    let turn : tie.At-loop Inv-loop μ-loop = search (c) in
+    let x : tie.After-unpack Inv-loop μ-loop = search (c) in
+    let entered : tie.After-enter Inv-loop μ-loop = search (c) in
     let a = start .args in (
       omega arith,
-      simp length-set (p₂ .loop .inv .1),
-      table-turn (a .s) (blocksIn (a .list)) (a .table .now) (p₂ .loop .table) (p₂ .loop .l) (omega arith)
-          (p₂ .loop .inv .2)
-          (c .before .narrow .ensures ∙ seats-base (a .s) (blocksIn (a .list)) _ (p₁ .of .ensures)) (c .narrow2 .ensures ∙ seats-log (a .s) (blocksIn
-          (a .list)) _ (p₁ .of .ensures)),
+      table-turn (a .s) (recordsIn (a .list .now)) _ (turn .loop .j) (turn .loop .inv .1) (x .unpack .ensures)
+          (number-at (start .pre .1) (turn .loop .j) (x .unpack .ensures) .1) (entered .enter .ensures),
     )
 
 returns : tie.Need-returns Inv-loop μ-loop
 returns c =
-    let p₁ = c .before in
-    let start = p₁ .before .before in
+    let start : tie.Start Inv-loop μ-loop = search (c) in
+    let turn : tie.At-loop Inv-loop μ-loop = search (c) in
     let a = start .args in
-    table-all (a .s) (blocksIn (a .list)) (a .table .now) _ (p₁ .loop .l) (omega arith) (start .pre .1) (p₁ .loop .inv .2)
+    table-all (a .s) (recordsIn (a .list .now)) _ (turn .loop .j) (omega arith) (turn .loop .inv .1)
 
 pub fill-spec : {M : Type 1} → statement M
 fill-spec =
     tie.close
-    (tie.spec Inv-loop μ-loop loop-holds (λ c κs. search needs) narrow-requires mul-table (λ c. search needs)
-    slice-write-table narrow-requires-2 (λ c. search needs) (λ c. search needs) (λ c. search needs)
-    (λ c. simp length-set (omega arith)) (λ c. search needs) (λ c. search needs) loop-again
-    (λ c. c .before .loop .inv .1) returns)
+    (tie.spec Inv-loop μ-loop (λ c κs. search needs) loop-holds (λ c. search needs) element-copy-out-unpack (λ c κs. search needs)
+    (λ c. search needs) (λ c. search needs) element-copy-out-d enter-requires (λ c. search needs) (λ c. search needs) loop-again
+    (λ c. search needs) returns)

@@ -1,4 +1,3 @@
--- Assumes nothing.
 use borrow.Author.Needs.{needs}
 use Rattle.rules.proofs.shape.Shape.of.Statement.{statement}
 use Rattle.rules.proofs.shape.Shape.of.Tie as tie

@@ -1,4 +1,3 @@
--- `steps::budget::Budget::answer` meets its contract. Assumes nothing.
 use mathlib.Core.Path.{ap, sym}
 use mathlib.Core.Bool.{Bool, cond}
 use Rattle.rules.specs.declared.answer.Answer.the-variants.{Done, Cut}
