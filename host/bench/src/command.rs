@@ -35,21 +35,21 @@ impl Add for Done {
 pub type Doer = fn(&Command, &mut Image) -> Done;
 
 pub fn by_proved(command: &Command, image: &mut Image) -> Done {
-    use hamutsigra::{format, lend, power_up, read, write, Shape, NO_CUT};
+    use hamutsigra::{Card, Shape, Steps, TableEntry};
     let shape = Shape { pages: P, logical: L, logs: K };
-    let Image { data, spare } = image;
+    let mut card = Card::new(&mut image.data[..], &mut image.spare[..], shape);
     let mut page = [7; DATA_BYTES];
     let mut pages_read = 0;
     let answer = match command {
-        Command::Format => format(data, spare, shape, NO_CUT),
-        Command::PowerUp => power_up(data, spare, &mut [0; 2 * L], shape, NO_CUT),
+        Command::Format => card.format(None),
+        Command::PowerUp => card.power_up(&mut [TableEntry::default(); L], None),
         Command::Read(number) => {
             pages_read = 1;
-            read(data, spare, &mut page, shape, *number)
+            card.read_into(*number, &mut page).map(|()| Steps::default())
         }
-        Command::Write(number) => write(data, spare, &page, shape, *number, NO_CUT),
+        Command::Write(number) => card.write(*number, &page, None),
         Command::Lend(number) => {
-            assert!(lend(data, spare, shape, *number).is_some());
+            assert!(card.lend(*number).is_some());
             return Done::default();
         }
     };

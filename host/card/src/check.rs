@@ -4,51 +4,125 @@
 //! the reasons are what the second program sees (see `inspect`).
 
 use crate::commands;
+use crate::faults::{self, Fault};
 use crate::help::Verb;
 use crate::image::Image;
 use crate::inspect;
+use crate::json::Json;
+use crate::paint::Paint;
+use crate::shapes;
 use crate::words::{count, Asked};
-use hamutsigra::{Answer, Shape, DATA_BYTES, NO_CUT};
-use second::block::{Block, Rule, Used};
-use second::blocks::{Blocks, Breach, Role};
+use hamutsigra::{Answer, Refusal, Shape, Steps, DATA_BYTES};
+use second::block::{Block, Used};
+use second::blocks::{Blocks, Role};
 use second::card::Card;
 use second::spare::{Kind, HIGHEST_NUMBER};
 
 /// A list of reasons longer than this is broken off.
 const MOST_REASONS: usize = 12;
 
-/// The report, and the number with which a write of the page would be answered.
-pub fn check(image: &Image, number: usize, shape: Shape) -> (String, u8) {
+/// What was found out about a card.
+pub struct Checked<'a> {
+    answered: [Answered<'a>; 4],
+    reasons: Option<Reasons>,
+    /// Other values of P with which the image is as well-formed.
+    doubt: Option<String>,
+    other_pages: Vec<usize>,
+}
+
+/// A command and what it answers.
+type Answered<'a> = (Asked<'a>, Answer);
+
+/// What the answers come from.
+struct Reasons {
+    good: usize,
+    blocks: usize,
+    highest_number: u32,
+    faults: Vec<Fault>,
+    /// The obsolete blocks, and how they came to be so.
+    obsolete: Vec<(usize, &'static str)>,
+}
+
+pub fn check(image: &Image, number: usize, shape: Shape) -> Checked<'_> {
     let verbs = [Verb::Format, Verb::PowerUp, Verb::Read, Verb::Write];
     let answered = verbs.map(|verb| {
         let asked = Asked { verb, image, shape, number };
         let answer = attempt(&asked);
         (asked, answer)
     });
-    let mut lines: Vec<String> = answered.iter().map(in_words).collect();
-    lines.extend(reasons(image, shape));
-    lines.extend(remedies(&answered));
-    let [.., (_, write)] = answered;
-    (lines.join("\n") + "\n", write.map_or_else(|refusal| refusal.number(), |_| 0))
+    // Without a card there are no blocks to speak of; the answer says it all.
+    let reasons = inspect::card(image, shape).map(|card| Reasons::of(&card));
+    let doubt = shapes::doubt(image, shape);
+    Checked { answered, reasons, doubt, other_pages: shapes::other_pages(image, shape) }
 }
-
-/// A command and what it answers.
-type Answered<'a> = (Asked<'a>, Answer);
 
 /// What a command answers, tried on a copy.
 fn attempt(asked: &Asked) -> Answer {
     let Asked { verb, image, shape, number } = *asked;
-    let Image { mut data, mut spare } = image.clone();
-    let mut page = [0; DATA_BYTES];
+    let mut copy = image.clone();
+    let mut card = copy.card_mut(shape);
     match verb {
-        Verb::Format => hamutsigra::format(&mut data, &mut spare, shape, NO_CUT),
-        Verb::PowerUp => {
-            let mut table = commands::table(shape);
-            hamutsigra::power_up(&mut data, &mut spare, &mut table, shape, NO_CUT)
-        }
-        Verb::Read => hamutsigra::read(&data, &spare, &mut page, shape, number),
-        _ => hamutsigra::write(&mut data, &mut spare, &page, shape, number, NO_CUT),
+        Verb::Format => card.format(None),
+        Verb::PowerUp => card.power_up(&mut commands::table(shape), None),
+        Verb::Read => card.read(number).map(|_| Steps::default()),
+        _ => card.write(number, &[0; DATA_BYTES], None),
     }
+}
+
+impl Checked<'_> {
+    /// The number with which a write of the page would be answered.
+    pub fn status(&self) -> u8 {
+        number(&self.answered[3].1)
+    }
+
+    pub fn in_words(&self, paint: Paint) -> String {
+        let mut lines: Vec<String> = self.answered.iter().map(in_words).collect();
+        if let Some(reasons) = &self.reasons {
+            lines.extend(reasons.in_words(paint));
+        }
+        let mut remedies = self.remedies();
+        remedies.extend(self.doubt.clone());
+        if !remedies.is_empty() {
+            lines.push(String::new());
+        }
+        lines.extend(remedies);
+        lines.join("\n") + "\n"
+    }
+
+    /// What to do about the refusals. Most have a cause in common, so each remedy is
+    /// named once.
+    fn remedies(&self) -> Vec<String> {
+        let mut remedies = Vec::new();
+        for (asked, answer) in &self.answered {
+            let remedy = answer.err().map(|refusal| format!("{}.", asked.remedy(refusal)));
+            remedies.extend(remedy.filter(|remedy| !remedies.contains(remedy)));
+        }
+        remedies
+    }
+
+    pub fn to_json(&self) -> Json {
+        let answers = self.answered.iter().map(|(asked, answer)| {
+            let steps = answer.unwrap_or_else(Refusal::steps);
+            let meaning = answer.err().map_or(Json::Null, |of| Json::text(asked.meaning(of)));
+            Json::Object(vec![
+                ("command", Json::text(asked.verb.name())),
+                ("answer", Json::number(number(answer).into())),
+                ("programs", Json::number(steps.programs as usize)),
+                ("erases", Json::number(steps.erases as usize)),
+                ("meaning", meaning),
+            ])
+        });
+        let mut fields = vec![("answers", Json::List(answers.collect()))];
+        if let Some(reasons) = &self.reasons {
+            fields.extend(reasons.to_json());
+        }
+        fields.push(("other_pages_per_block", Json::numbers(self.other_pages.iter().copied())));
+        Json::Object(fields)
+    }
+}
+
+fn number(answer: &Answer) -> u8 {
+    answer.map_or_else(Refusal::number, |_| 0)
 }
 
 fn in_words((asked, answer): &Answered) -> String {
@@ -65,37 +139,54 @@ fn in_words((asked, answer): &Answered) -> String {
     }
 }
 
-/// What to do about the refusals, set off by an empty line. Most have a cause in
-/// common, so each remedy is named once.
-fn remedies(answered: &[Answered]) -> Vec<String> {
-    let mut remedies = Vec::new();
-    for (asked, answer) in answered {
-        let remedy = answer.err().map(|refusal| format!("{}.", asked.remedy(refusal)));
-        remedies.extend(remedy.filter(|remedy| !remedies.contains(remedy)));
+impl Reasons {
+    fn of(card: &Card) -> Reasons {
+        let blocks = Blocks::on(card);
+        Reasons {
+            good: card.good_blocks(),
+            blocks: card.blocks,
+            highest_number: blocks.highest_number(),
+            faults: faults::of(card, &blocks),
+            obsolete: obsolete(card, &blocks),
+        }
     }
-    if !remedies.is_empty() {
-        remedies.insert(0, String::new());
-    }
-    remedies
-}
 
-/// Lines that say what the answers come from, set off by an empty one.
-fn reasons(image: &Image, shape: Shape) -> Vec<String> {
-    // Without a card there are no blocks to speak of; the answer says it all.
-    let Some(card) = inspect::card(image, shape) else {
-        return Vec::new();
-    };
-    let blocks = Blocks::on(&card);
-    let mut reasons = vec![String::new()];
-    reasons.push(format!(
-        "{} of {} blocks are good; the highest sequence number is {} of {HIGHEST_NUMBER}",
-        card.good_blocks(),
-        card.blocks,
-        blocks.highest_number()
-    ));
-    reasons.extend(broken_off(blocks.breaches().iter().map(breach).collect()));
-    reasons.extend(broken_off(obsolete(&card, &blocks)));
-    reasons
+    /// Lines, set off by an empty one, in the colours of `show`.
+    fn in_words(&self, paint: Paint) -> Vec<String> {
+        let mut lines = vec![String::new()];
+        lines.push(format!(
+            "{} of {} blocks are good; the highest sequence number is {} of {HIGHEST_NUMBER}",
+            self.good, self.blocks, self.highest_number
+        ));
+        let faults = self.faults.iter().map(|fault| paint.role(Role::Broken, &fault.in_words()));
+        lines.extend(broken_off(faults.collect()));
+        let obsolete = self.obsolete.iter().map(|(block, origin)| {
+            paint.role(Role::Obsolete, &format!("block {block}: obsolete, {origin}"))
+        });
+        lines.extend(broken_off(obsolete.collect()));
+        lines
+    }
+
+    fn to_json(&self) -> Vec<(&'static str, Json)> {
+        let faults = self.faults.iter().map(|fault| {
+            let place = fault.place.as_ref();
+            Json::Object(vec![
+                ("rule", Json::text(fault.rule.to_string())),
+                ("blocks", Json::numbers(fault.blocks.iter().copied())),
+                ("page", Json::number_if_any(place.map(|place| place.page))),
+                ("spare_byte", Json::number_if_any(place.and_then(|place| place.byte))),
+                ("what", place.map_or(Json::Null, |place| Json::text(place.what.clone()))),
+            ])
+        });
+        let obsolete = self.obsolete.iter().map(|(block, _)| *block);
+        vec![
+            ("good_blocks", Json::number(self.good)),
+            ("blocks", Json::number(self.blocks)),
+            ("highest_number", Json::number(self.highest_number as usize)),
+            ("faults", Json::List(faults.collect())),
+            ("obsolete", Json::numbers(obsolete)),
+        ]
+    }
 }
 
 fn broken_off(mut reasons: Vec<String>) -> Vec<String> {
@@ -107,35 +198,13 @@ fn broken_off(mut reasons: Vec<String>) -> Vec<String> {
     reasons
 }
 
-fn breach(breach: &Breach) -> String {
-    let what = match breach.rule {
-        Rule::W1 => "a programmed page comes after an erased one",
-        Rule::W2 => "spare bytes not as in the table, or not of one kind and one number",
-        Rule::W3 => "logical pages out of range, or of more than one logical block",
-        Rule::W4 => "a copy whose pages are not in order",
-        Rule::W5 => "the same sequence number",
-        Rule::W6 => "live log blocks of the same logical block",
-        Rule::W7 => "more live log blocks than K",
-    };
-    format!("{}: {what} ({})", named(&breach.blocks), breach.rule)
-}
-
-fn named(blocks: &[usize]) -> String {
-    let numbers: Vec<String> = blocks.iter().map(usize::to_string).collect();
-    match &numbers[..] {
-        [one] => format!("block {one}"),
-        [others @ .., last] => format!("blocks {} and {last}", others.join(", ")),
-        [] => "no block".to_string(),
-    }
-}
-
-fn obsolete(card: &Card, blocks: &Blocks) -> Vec<String> {
+fn obsolete(card: &Card, blocks: &Blocks) -> Vec<(usize, &'static str)> {
     let obsolete = blocks.iter().filter(|block| blocks.role(block) == Role::Obsolete);
     let used = obsolete.filter_map(|block| match block {
         Block::Used(used) => Some(used),
         _ => None,
     });
-    used.map(|used| format!("block {}: obsolete, {}", used.block, origin(card, used))).collect()
+    used.map(|used| (used.block, origin(card, used))).collect()
 }
 
 /// How an obsolete block came to be so.
@@ -144,5 +213,22 @@ fn origin(card: &Card, used: &Used) -> &'static str {
         _ if used.is_complete(card.shape.pages) => "a data block that has been replaced",
         Kind::Copy => "a copy that was not finished",
         Kind::Log => "a log block that has been merged",
+    }
+}
+
+#[cfg(test)]
+mod tests {
+    use super::*;
+
+    #[test]
+    fn faults_and_obsolete_blocks_have_the_colours_of_the_map() {
+        let mut image = Image::erased(16);
+        image.spare[..8].copy_from_slice(&[1, 0, 0, 0, 99, 255, 0, 0]);
+        image.spare[64..72].copy_from_slice(&[2, 0, 0, 0, 15, 255, 0, 0]);
+        let checked = check(&image, 0, Shape { pages: 4, logical: 2, logs: 1 });
+        let coloured = checked.in_words(Paint::Colour);
+        assert!(coloured.contains("\x1b[37;45mblock 0: spare bytes not as in the table"));
+        assert!(coloured.contains("\x1b[30;43mblock 1: obsolete, a copy"));
+        assert!(!checked.in_words(Paint::Plain).contains('\x1b'));
     }
 }

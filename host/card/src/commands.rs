@@ -1,12 +1,15 @@
 //! What is done to a stored image: made, and changed or read by the commands of the
 //! layer. A changed image is stored only after success or a cut.
 
+use crate::arguments::Pages;
 use crate::failure::Failure;
 use crate::help::Verb;
 use crate::image::Image;
+use crate::shapes;
 use crate::store::Store;
+use crate::whole::{self, Dumped, Refused, Written};
 use crate::words::Asked;
-use hamutsigra::{Answer, Refusal, Shape, Steps, DATA_BYTES, SPARE_BYTES};
+use hamutsigra::{raw, Refusal, Shape, Steps, TableEntry, DATA_BYTES, SPARE_BYTES};
 use second::shape::{BLOCKS, PAGES};
 use second::spare::STATUS;
 
@@ -29,31 +32,68 @@ pub fn new(store: &Store, pages: usize, blocks: usize, bad: &[usize]) -> Result<
     store.create(&image)
 }
 
-pub fn format(store: &Store, shape: Shape, cut: usize) -> Result<Steps, Failure> {
-    change(store, Verb::Format, shape, 0, |image| {
-        hamutsigra::format(&mut image.data, &mut image.spare, shape, cut)
+pub fn format(store: &Store, shape: Shape, cut: Option<usize>) -> Result<Steps, Failure> {
+    change(store, Verb::Format, shape, |image| {
+        image.card_mut(shape).format(cut).map_err(at(0)).map(|steps| (steps, ()))
+    })
+    .map(|(steps, ())| steps)
+}
+
+/// Gives the table as well: what is said of each logical block.
+pub fn power_up(
+    store: &Store,
+    shape: Shape,
+    cut: Option<usize>,
+) -> Result<(Steps, Vec<TableEntry>), Failure> {
+    change(store, Verb::PowerUp, shape, |image| {
+        let mut table = table(shape);
+        let steps = image.card_mut(shape).power_up(&mut table, cut).map_err(at(0))?;
+        Ok((steps, table))
     })
 }
 
-/// Gives the table as well: for each logical block its data block, then its live
-/// log block.
-pub fn power_up(store: &Store, shape: Shape, cut: usize) -> Result<(Steps, Vec<u16>), Failure> {
-    let mut table = table(shape);
-    let steps = change(store, Verb::PowerUp, shape, 0, |image| {
-        hamutsigra::power_up(&mut image.data, &mut image.spare, &mut table, shape, cut)
-    })?;
-    Ok((steps, table))
-}
-
+/// Gives as well what makes P doubtful, if anything does.
 pub fn write(
     store: &Store,
     number: usize,
     page: &[u8],
     shape: Shape,
-    cut: usize,
-) -> Result<Steps, Failure> {
-    change(store, Verb::Write, shape, number, |image| {
-        hamutsigra::write(&mut image.data, &mut image.spare, page, shape, number, cut)
+    cut: Option<usize>,
+) -> Result<(Steps, Option<String>), Failure> {
+    change(store, Verb::Write, shape, |image| {
+        let doubt = shapes::doubt(image, shape);
+        let steps = match page.try_into() {
+            Ok(page) => image.card_mut(shape).write(number, page, cut),
+            // The layer says whether the shape comes first.
+            Err(_) => raw::write(&mut image.data, &mut image.spare, page, shape, number, 0),
+        };
+        Ok((steps.map_err(at(number))?, doubt))
+    })
+}
+
+pub fn restore(
+    store: &Store,
+    first: usize,
+    pages: &[[u8; DATA_BYTES]],
+    shape: Shape,
+) -> Result<Written, Failure> {
+    let written = change(store, Verb::Restore, shape, |image| {
+        whole::restore(image, shape, first, pages).map(|written| (written.steps, written))
+    })?;
+    Ok(written.1)
+}
+
+pub fn renew(store: &Store, shape: Shape) -> Result<Written, Failure> {
+    let written = change(store, Verb::Renew, shape, |image| {
+        whole::renew(image, shape).map(|written| (written.steps, written))
+    })?;
+    Ok(written.1)
+}
+
+pub fn dump(store: &Store, shape: Shape, pages: Pages) -> Result<Dumped, Failure> {
+    let image = store.load()?;
+    whole::dump(&image, shape, pages).map_err(|Refused { number, refusal }| {
+        Asked { verb: Verb::Dump, image: &image, shape, number }.refused(refusal)
     })
 }
 
@@ -67,40 +107,47 @@ pub fn lend(store: &Store, number: usize, shape: Shape) -> Result<Option<usize>,
     let image = store.load()?;
     // An empty part does not say whether read would refuse.
     read_page(&image, number, shape)?;
-    let lent = hamutsigra::lend(&image.data, &image.spare, shape, number);
-    Ok(lent.map(|lent| lent.at))
+    Ok(image.card(shape).lend(number).map(|lent| lent.at))
 }
 
 /// A table for power-up. Where L is beyond any card it stays empty, and the card
 /// says so.
-pub fn table(shape: Shape) -> Vec<u16> {
-    let entries = if shape.logical <= MOST_LOGICAL { 2 * shape.logical } else { 0 };
-    vec![0; entries]
+pub fn table(shape: Shape) -> Vec<TableEntry> {
+    let entries = if shape.logical <= MOST_LOGICAL { shape.logical } else { 0 };
+    vec![TableEntry::default(); entries]
 }
 
 fn read_page(image: &Image, number: usize, shape: Shape) -> Result<[u8; DATA_BYTES], Failure> {
-    let mut page = [0; DATA_BYTES];
-    let answer = hamutsigra::read(&image.data, &image.spare, &mut page, shape, number);
     let asked = Asked { verb: Verb::Read, image, shape, number };
-    answer.map_err(|refusal| asked.refused(refusal))?;
-    Ok(page)
+    image.card(shape).read(number).map_err(|refusal| asked.refused(refusal))
 }
 
-fn change(
+/// Does a command on a stored image, and stores what it leaves.
+fn change<T>(
     store: &Store,
     verb: Verb,
     shape: Shape,
-    number: usize,
-    command: impl FnOnce(&mut Image) -> Answer,
-) -> Result<Steps, Failure> {
+    command: impl FnOnce(&mut Image) -> Result<(Steps, T), Refused>,
+) -> Result<(Steps, T), Failure> {
     let mut opened = store.open_to_change()?;
     let answer = command(&mut opened.image);
-    if let Ok(steps) | Err(Refusal::Cut(steps)) = answer {
+    let done = match &answer {
+        Ok((steps, _)) | Err(Refused { refusal: Refusal::Cut(steps), .. }) => Some(*steps),
+        Err(_) => None,
+    };
+    if let Some(steps) = done {
         // A stream passes the image on even if nothing has changed.
         if steps != Steps::default() || store.is_stream() {
             store.save(&opened.image)?;
+        } else if opened.unfinished {
+            store.finish()?;
         }
     }
-    let asked = Asked { verb, image: &opened.image, shape, number };
-    answer.map_err(|refusal| asked.refused(refusal))
+    answer.map_err(|Refused { number, refusal }| {
+        Asked { verb, image: &opened.image, shape, number }.refused(refusal)
+    })
+}
+
+fn at(number: usize) -> impl Fn(Refusal) -> Refused {
+    move |refusal| Refused { number, refusal }
 }

@@ -10,7 +10,7 @@ use crate::paint::Paint;
 use crate::store::Store;
 use crate::stream::say;
 use crate::words::count;
-use hamutsigra::{Answer, Refusal, Shape, Steps, DATA_BYTES, NO_BLOCK, NO_CUT, SPARE_BYTES};
+use hamutsigra::{Answer, Refusal, Shape, Steps, TableEntry, DATA_BYTES, SPARE_BYTES};
 use std::fmt::Debug;
 
 /// P 4, L 2, K 1; B is 4, all blocks good.
@@ -41,7 +41,7 @@ impl Demo<'_> {
     fn case_1(&self) -> Result<(), Failure> {
         commands::new(self.store, SHAPE.pages, BLOCKS, &[])?;
         title("Case 1. Format of 4 free blocks: no steps, answer 0. Page 3 reads 255.")?;
-        let steps = commands::format(self.store, SHAPE, NO_CUT)?;
+        let steps = commands::format(self.store, SHAPE, None)?;
         expect("format", steps, done(0, 0))?;
         let image = self.store.load()?;
         expect("page 3", content(&image, 3), Ok(255))?;
@@ -90,11 +90,11 @@ impl Demo<'_> {
 
     fn case_7(&self) -> Result<(), Failure> {
         title("Case 7. Writes of 5, 6, 7 complete block 0: no erase, a new data block.")?;
-        self.expect_table([2, NO_BLOCK, NO_BLOCK, 0])?;
+        self.expect_table([(Some(2), None), (None, Some(0))])?;
         self.write(5, 16, done(1, 0), (0, 1))?;
         self.write(6, 17, done(1, 0), (0, 2))?;
         self.write(7, 18, done(1, 0), (0, 3))?;
-        self.expect_table([2, NO_BLOCK, 0, NO_BLOCK])
+        self.expect_table([(Some(2), None), (Some(0), None)])
     }
 
     fn case_8(&self) -> Result<(), Failure> {
@@ -116,7 +116,7 @@ impl Demo<'_> {
     ) -> Result<(), Failure> {
         let what = format!("write {number}");
         let bytes = [fill; DATA_BYTES];
-        expect(&what, commands::write(self.store, number, &bytes, SHAPE, NO_CUT)?, steps)?;
+        expect(&what, commands::write(self.store, number, &bytes, SHAPE, None)?.0, steps)?;
         let at = commands::lend(self.store, number, SHAPE)?;
         expect(&what, at, Some((block * SHAPE.pages + page) * DATA_BYTES))?;
         let said = format!("{what}: {}; it is in block {block}, page {page}", count(steps));
@@ -134,8 +134,8 @@ impl Demo<'_> {
         self.show(&format!("{what}: answer 8, {}", count(steps)), &copy)?;
 
         let mut recovered = copy.clone();
-        let Image { data, spare } = &mut recovered;
-        let answer = hamutsigra::power_up(data, spare, &mut [0; 4], SHAPE, NO_CUT);
+        let mut table = [TableEntry::default(); SHAPE.logical];
+        let answer = recovered.card_mut(SHAPE).power_up(&mut table, None);
         expect(&what, answer, Ok(done(0, erased.len() as u32)))?;
         expect(&what, &changed_blocks(&copy, &recovered)[..], erased)?;
         expect(&what, content(&recovered, 4), Ok(255))?;
@@ -155,11 +155,16 @@ impl Demo<'_> {
     }
 
     /// The table of power-up, where there is nothing to erase.
-    fn expect_table(&self, expected: [u16; 4]) -> Result<(), Failure> {
-        let (steps, table) = commands::power_up(self.store, SHAPE, NO_CUT)?;
+    fn expect_table(&self, expected: [(Option<usize>, Option<usize>); 2]) -> Result<(), Failure> {
+        let (steps, table) = commands::power_up(self.store, SHAPE, None)?;
         expect("power-up", steps, done(0, 0))?;
+        let table: Vec<_> = table.iter().map(|of| (of.data_block(), of.log_block())).collect();
         expect("table of power-up", &table[..], &expected)?;
-        say(&format!("\npower-up: nothing to erase; table {table:?}\n"))
+        // 65,535 for none, as document 01 has it.
+        let number = |block: Option<usize>| block.unwrap_or(65_535).to_string();
+        let numbers = table.into_iter().flat_map(|(data, log)| [number(data), number(log)]);
+        let numbers: Vec<String> = numbers.collect();
+        say(&format!("\npower-up: nothing to erase; table {}\n", numbers.join(", ")))
     }
 
     fn show(&self, what: &str, image: &Image) -> Result<(), Failure> {
@@ -186,15 +191,13 @@ fn expect<T: PartialEq + Debug>(what: &str, is: T, should_be: T) -> Result<(), F
 }
 
 fn write_on(image: &mut Image, number: usize, fill: u8, cut: usize) -> Answer {
-    let page = [fill; DATA_BYTES];
-    hamutsigra::write(&mut image.data, &mut image.spare, &page, SHAPE, number, cut)
+    image.card_mut(SHAPE).write(number, &[fill; DATA_BYTES], Some(cut))
 }
 
 /// The byte with which a page is filled; 0, which is never written here, if it is
 /// not filled with one byte.
 fn content(image: &Image, number: usize) -> Result<u8, Refusal> {
-    let mut page = [0; DATA_BYTES];
-    hamutsigra::read(&image.data, &image.spare, &mut page, SHAPE, number)?;
+    let page = image.card(SHAPE).read(number)?;
     let filled = page.iter().all(|byte| *byte == page[0]);
     Ok(if filled { page[0] } else { 0 })
 }

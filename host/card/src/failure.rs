@@ -18,10 +18,14 @@ pub enum Failure {
     CannotRead(String),
     /// The library did not do what document 01 says.
     Surprise(String),
+    /// What an interrupted write has left does not belong to what is there.
+    Left(String),
     /// A file cannot be created or replaced.
     CannotCreate(String),
     /// Reading or writing broke off.
     Interrupted(String),
+    /// All was done and stored, but could not be said.
+    Unsaid(String),
 }
 
 impl Failure {
@@ -33,8 +37,10 @@ impl Failure {
             Failure::NoImage(_) => 65,
             Failure::CannotRead(_) => 66,
             Failure::Surprise(_) => 70,
+            Failure::Left(_) => 72,
             Failure::CannotCreate(_) => 73,
             Failure::Interrupted(_) => 74,
+            Failure::Unsaid(_) => 75,
         }
     }
 
@@ -44,6 +50,16 @@ impl Failure {
 
     pub fn cannot_create(path: &Path, error: &io::Error) -> Failure {
         Failure::CannotCreate(format!("{}: cannot be created or replaced: {error}", path.display()))
+    }
+
+    pub fn cannot_remove(path: &Path, error: &io::Error) -> Failure {
+        Failure::CannotCreate(format!("{}: cannot be removed: {error}", path.display()))
+    }
+
+    /// What has a name that the tool needs is somebody else's, as far as it can tell.
+    pub fn in_the_way(path: &Path) -> Failure {
+        let message = "is in the way of a new file, and was not left by this tool; move it away";
+        Failure::CannotCreate(format!("{}: {message}", path.display()))
     }
 
     pub fn exists(path: &Path) -> Failure {
@@ -67,8 +83,10 @@ impl fmt::Display for Failure {
             | Failure::NoImage(message)
             | Failure::CannotRead(message)
             | Failure::Surprise(message)
+            | Failure::Left(message)
             | Failure::CannotCreate(message)
-            | Failure::Interrupted(message) => message,
+            | Failure::Interrupted(message)
+            | Failure::Unsaid(message) => message,
         };
         out.write_str(message)
     }

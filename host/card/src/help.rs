@@ -1,4 +1,7 @@
-//! The verbs of the tool, and the text of `--help` for each.
+//! The verbs of the tool, and the text of `--help` for each. The manual page is made of
+//! the same text: see `manual`.
+
+use crate::texts;
 
 /// What the tool can be asked to do.
 #[derive(Clone, Copy, Debug, PartialEq, Eq)]
@@ -11,178 +14,170 @@ pub enum Verb {
     Lend,
     Show,
     Check,
+    Dump,
+    Restore,
+    Renew,
+    Salvage,
+    Raw,
+    Shape,
+    Diff,
+    Split,
+    Join,
     Demo,
+    Help,
 }
 
-const VERBS: [Verb; 9] = [
-    Verb::New,
-    Verb::Format,
-    Verb::PowerUp,
-    Verb::Read,
-    Verb::Write,
-    Verb::Lend,
-    Verb::Show,
-    Verb::Check,
-    Verb::Demo,
+/// A verb and what is said of it.
+pub struct About {
+    pub verb: Verb,
+    pub name: &'static str,
+    /// What follows the name.
+    pub takes: &'static str,
+    /// What it does, in a few words.
+    pub brief: &'static str,
+    /// What it does, and its own options.
+    pub text: &'static str,
+}
+
+/// All verbs, in the order in which help has them.
+pub const VERBS: [About; 19] = [
+    about(Verb::New, "new", "IMAGE -P P -B B [--bad BLOCK]..", "make an erased chip", texts::NEW),
+    about(Verb::Format, "format", "IMAGE SHAPE [--cut N]", "make an empty card", texts::FORMAT),
+    about(
+        Verb::PowerUp,
+        "power-up",
+        "IMAGE SHAPE [--cut N] [--json]",
+        "recover a card that was pulled out",
+        texts::POWER_UP,
+    ),
+    about(
+        Verb::Read,
+        "read",
+        "IMAGE PAGE [FILE] SHAPE [--hex]",
+        "read a logical page",
+        texts::READ,
+    ),
+    about(
+        Verb::Write,
+        "write",
+        "IMAGE PAGE [FILE] SHAPE [--cut N]",
+        "write a logical page",
+        texts::WRITE,
+    ),
+    about(Verb::Lend, "lend", "IMAGE PAGE SHAPE", "say where a page lies", texts::LEND),
+    about(Verb::Show, "show", "IMAGE SHAPE [--json]", "draw a map of the chip", texts::SHOW),
+    about(
+        Verb::Check,
+        "check",
+        "IMAGE [PAGE] SHAPE [--json]",
+        "say what the card would answer, and why",
+        texts::CHECK,
+    ),
+    about(
+        Verb::Dump,
+        "dump",
+        "IMAGE FILE SHAPE [--from A] [--to A]",
+        "read all logical pages out",
+        texts::DUMP,
+    ),
+    about(
+        Verb::Restore,
+        "restore",
+        "IMAGE FILE SHAPE [--from A] [--to A]",
+        "write them again",
+        texts::RESTORE,
+    ),
+    about(Verb::Renew, "renew", "IMAGE SHAPE", "let the sequence numbers begin anew", texts::RENEW),
+    about(
+        Verb::Salvage,
+        "salvage",
+        "IMAGE FILE SHAPE [--doubtful]",
+        "read out what is certain",
+        texts::SALVAGE,
+    ),
+    about(Verb::Raw, "raw", "IMAGE PAGE [-P P]", "show a flash page byte by byte", texts::RAW),
+    about(Verb::Shape, "shape", "IMAGE [--json]", "tell the shapes that fit", texts::SHAPES),
+    about(Verb::Diff, "diff", "A B SHAPE [--json]", "compare two images", texts::DIFF),
+    about(
+        Verb::Split,
+        "split",
+        "IMAGE --data FILE --spare FILE",
+        "make two files of a dump",
+        texts::SPLIT,
+    ),
+    about(
+        Verb::Join,
+        "join",
+        "IMAGE --data FILE --spare FILE",
+        "make a dump of two files",
+        texts::JOIN,
+    ),
+    about(Verb::Demo, "demo", "[IMAGE]", "run the worked card of document 01", texts::DEMO),
+    about(Verb::Help, "help", "[VERB]", "say more of a verb", texts::HELP),
 ];
+
+const fn about(
+    verb: Verb,
+    name: &'static str,
+    takes: &'static str,
+    brief: &'static str,
+    text: &'static str,
+) -> About {
+    About { verb, name, takes, brief, text }
+}
 
 impl Verb {
     pub fn named(name: &str) -> Option<Verb> {
-        VERBS.into_iter().find(|verb| verb.name() == name)
+        VERBS.iter().find(|about| about.name == name).map(|about| about.verb)
     }
 
     pub fn name(self) -> &'static str {
-        match self {
-            Verb::New => "new",
-            Verb::Format => "format",
-            Verb::PowerUp => "power-up",
-            Verb::Read => "read",
-            Verb::Write => "write",
-            Verb::Lend => "lend",
-            Verb::Show => "show",
-            Verb::Check => "check",
-            Verb::Demo => "demo",
-        }
+        self.about().name
     }
 
-    /// The text of `card VERB --help`.
+    fn about(self) -> &'static About {
+        // Every verb has its entry: a test goes through all of them.
+        VERBS.iter().find(|about| about.verb == self).unwrap_or(&VERBS[0])
+    }
+
+    /// The text of `card VERB --help` and `card help VERB`.
     pub fn help(self) -> String {
-        let (text, common) = match self {
-            Verb::New => (NEW, ""),
-            Verb::Format => (FORMAT, SHAPE),
-            Verb::PowerUp => (POWER_UP, SHAPE),
-            Verb::Read => (READ, SHAPE),
-            Verb::Write => (WRITE, SHAPE),
-            Verb::Lend => (LEND, SHAPE),
-            Verb::Show => (SHOW, SHAPE),
-            Verb::Check => (CHECK, SHAPE),
-            Verb::Demo => (DEMO, ""),
+        let about = self.about();
+        let shape = if about.takes.contains("SHAPE") { texts::SHAPE } else { "" };
+        let image = if about.takes.contains("IMAGE") && self != Verb::Demo || self == Verb::Diff {
+            texts::IMAGE
+        } else {
+            ""
         };
-        let image = if self == Verb::Demo { "" } else { IMAGE };
-        format!("{text}{common}{image}{STATUS}")
+        format!("{}\n{}{shape}{image}{}", about.usage(), about.text, texts::STATUS)
+    }
+}
+
+impl About {
+    pub fn usage(&self) -> String {
+        format!("card {} {}\n", self.name, self.takes)
     }
 }
 
 /// The text of `card --help`.
 pub fn help() -> String {
-    format!("{CARD}{IMAGE}{STATUS}")
+    let verbs = VERBS.iter().map(|about| {
+        let usage = about.usage();
+        format!("  {:<47} {}\n", usage.trim_end(), about.brief)
+    });
+    let verbs: String = verbs.collect();
+    format!("{}\n{verbs}\n{}{}{}", texts::CARD, texts::ABOUT_SHAPE, texts::IMAGE, texts::STATUS)
 }
 
-const CARD: &str = "\
-card: the flash translation layer on image files of a chip
+#[cfg(test)]
+mod tests {
+    use super::*;
 
-  card new IMAGE -P P -B B [--bad BLOCK]..      make the image of an erased chip
-  card format IMAGE SHAPE [--cut N]             make an empty card of it
-  card power-up IMAGE SHAPE [--cut N]           recover after the card was pulled out
-  card read IMAGE PAGE [FILE] SHAPE [--hex]     read a logical page
-  card write IMAGE PAGE [FILE] SHAPE [--cut N]  write a logical page
-  card lend IMAGE PAGE SHAPE                    say where a logical page lies
-  card show IMAGE SHAPE                         draw a map of the chip
-  card check IMAGE [PAGE] SHAPE                 say what the card would answer, and why
-  card demo [IMAGE]                             run the worked card of document 01
-
-SHAPE is -P P -L L -K K: pages per block, logical blocks, log blocks at most. It is
-not stored in the image: give a card the same shape every time.
-`card VERB --help` says more.
-";
-
-const NEW: &str = "\
-card new IMAGE -P P -B B [--bad BLOCK]..
-
-Makes the image of an erased chip: all bytes are 255. The file must not be there yet.
-
-  -P, --pages P    pages per block, 2 to 32
-  -B, --blocks B   blocks, 3 to 64
-  --bad BLOCK      mark this block bad; may be given again
-";
-
-const FORMAT: &str = "\
-card format IMAGE -P P -L L -K K [--cut N]
-
-Makes an empty card: erases each good block that is not free. All content is lost.
-
-  --cut N            pull the card out after N steps
-";
-
-const POWER_UP: &str = "\
-card power-up IMAGE -P P -L L -K K [--cut N]
-
-Recovers a card that was pulled out: erases each obsolete block. Prints, for each
-logical block, its data block and its live log block.
-
-  --cut N            pull the card out after N steps
-";
-
-const READ: &str = "\
-card read IMAGE PAGE [FILE] -P P -L L -K K [--hex]
-
-Reads logical page PAGE and writes its 512 bytes to FILE, or to standard output (on
-a terminal in hexadecimal). A page never written is 512 bytes of 255.
-
-  --hex              write in hexadecimal, for people
-";
-
-const WRITE: &str = "\
-card write IMAGE PAGE [FILE] -P P -L L -K K [--cut N]
-
-Writes the 512 bytes of FILE, or of standard input, as logical page PAGE.
-
-  --cut N            pull the card out after N steps
-";
-
-const LEND: &str = "\
-card lend IMAGE PAGE -P P -L L -K K
-
-Says where the content of logical page PAGE lies: its block, its page there, and the
-byte of the image at which it starts.
-";
-
-const SHOW: &str = "\
-card show IMAGE -P P -L L -K K
-
-Draws a map of the chip: for each block its role, its logical block, its sequence
-number, and its pages. On a small card the pages are shown by the logical page that
-they hold, on a large one by how far the block is filled (#; + in part). Bad, obsolete
-and broken blocks are in capitals and marked with !, as are those that break a rule with
-others. In colour on a terminal, unless NO_COLOR is set.
-";
-
-const CHECK: &str = "\
-card check IMAGE [PAGE] -P P -L L -K K
-
-Says what the card would answer to format, power-up, and to read and write of PAGE
-(without it: page 0), and why. Changes nothing. The exit status is the answer that
-write would give: 0 for a recovered card.
-";
-
-const DEMO: &str = "\
-card demo [IMAGE]
-
-Runs the worked card of document 01, cases 1 to 8, on a new image file (without a
-name: worked-card.img), and shows the map after each step. Every answer is held to the
-document's; exit status 70 if one is another.
-";
-
-const SHAPE: &str = "
-  -P, --pages P      pages per block
-  -L, --logical L    logical blocks
-  -K, --logs K       log blocks at most
-";
-
-const IMAGE: &str = "
-IMAGE is a raw dump as NAND readers write it: 528 bytes a page, data then spare. In
-its place, two files may be given: --data FILE --spare FILE. A name of - is standard
-input, and standard output for what is changed. An image is rewritten only after
-success or a cut, whole, by a new file (IMAGE.card-new) renamed over the old one.
-";
-
-const STATUS: &str = "
-Exit status: 0 all done; 1 to 8 the answer with which the card refuses
-  1 shape or image length outside the limits   5 the image is not well-formed
-  2 page not 512 bytes long                    6 an obsolete block exists
-  3 logical page out of range                  7 the sequence numbers do not suffice
-  4 too few good blocks                        8 pulled out by --cut
-and of the tool itself: 64 wrong arguments; 65 the file is no image; 66 a file cannot
-be read; 70 the layer did not do what document 01 says; 73 a file cannot be created or
-replaced; 74 writing broke off.
-";
+    #[test]
+    fn every_verb_has_its_own_entry() {
+        for about in &VERBS {
+            assert_eq!(about.verb.name(), about.name);
+            assert_eq!(Verb::named(about.name), Some(about.verb));
+        }
+    }
+}

@@ -1,6 +1,6 @@
 //! An image in memory, and as a raw dump.
 
-use hamutsigra::{DATA_BYTES, SPARE_BYTES};
+use hamutsigra::{Card, Shape, DATA_BYTES, SPARE_BYTES};
 
 /// A page in a raw dump: its data bytes, then its spare bytes.
 pub const DUMP_BYTES: usize = DATA_BYTES + SPARE_BYTES;
@@ -10,17 +10,33 @@ pub const DUMP_BYTES: usize = DATA_BYTES + SPARE_BYTES;
 pub struct Image {
     pub data: Vec<u8>,
     pub spare: Vec<u8>,
+    /// Whether they are kept in two files, which may be of two moments.
+    pub two_files: bool,
 }
 
 impl Image {
     /// This many pages, erased.
     pub fn erased(pages: usize) -> Image {
-        Image { data: vec![255; pages * DATA_BYTES], spare: vec![255; pages * SPARE_BYTES] }
+        Image {
+            data: vec![255; pages * DATA_BYTES],
+            spare: vec![255; pages * SPARE_BYTES],
+            two_files: false,
+        }
+    }
+
+    /// The card of this shape, to look at it.
+    pub fn card(&self, shape: Shape) -> Card<&[u8]> {
+        Card::new(&self.data, &self.spare, shape)
+    }
+
+    /// The card of this shape, to change it.
+    pub fn card_mut(&mut self, shape: Shape) -> Card<&mut [u8]> {
+        Card::new(&mut self.data, &mut self.spare, shape)
     }
 
     /// The image in a dump of whole pages.
     pub fn from_dump(dump: &[u8]) -> Image {
-        let mut image = Image { data: Vec::new(), spare: Vec::new() };
+        let mut image = Image::erased(0);
         for page in dump.chunks_exact(DUMP_BYTES) {
             let (data, spare) = page.split_at(DATA_BYTES);
             image.data.extend_from_slice(data);

@@ -6,17 +6,32 @@ mod arguments;
 mod check;
 mod commands;
 mod demo;
+mod diff;
 mod failure;
+mod faults;
+mod files;
+mod flash;
+mod given;
 mod help;
 mod hex;
 mod image;
 mod inspect;
+mod json;
+mod manual;
 mod map;
+mod out;
 mod paint;
-mod replace;
+mod progress;
+#[cfg(test)]
+mod random_calls;
+mod salvage;
+mod shapes;
+mod spare;
 mod store;
 mod stream;
+mod texts;
 mod verbs;
+mod whole;
 mod words;
 
 use failure::Failure;
@@ -25,7 +40,8 @@ use std::process::ExitCode;
 use stream::complain;
 
 fn main() -> ExitCode {
-    let done = arguments::parse(env::args_os().skip(1)).and_then(verbs::run);
+    let shape = env::var_os(given::SHAPE_VARIABLE).filter(|shape| !shape.is_empty());
+    let done = arguments::parse(env::args_os().skip(1), shape).and_then(verbs::run);
     match done {
         Ok(status) => ExitCode::from(status),
         Err(failure) => {

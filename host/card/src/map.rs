@@ -1,6 +1,7 @@
 //! The map of a chip that `show` draws, of what the second program sees (see
 //! `inspect`).
 
+use crate::json::Json;
 use crate::paint::Paint;
 use second::block::{Block, Used};
 use second::blocks::{Blocks, Role};
@@ -8,10 +9,15 @@ use second::card::Card;
 
 /// A card with more blocks than this is drawn in two columns, to fit a screen.
 const MOST_ROWS: usize = 16;
+/// What a screen is wide.
+const WIDTH: usize = 80;
 /// The pages of a block are shown by their logical pages if this is wide enough.
 const WIDTH_FOR_PAGES: usize = 40;
-/// In two columns, how far a block is filled is shown by this many signs.
+/// In two columns, how far a block is filled is shown by so many signs, or by fewer if
+/// the rest of the line needs more room.
 const BAR_WIDTH: usize = 8;
+/// Between two columns.
+const GAP: &str = "   ";
 
 /// The map, and below it how many blocks have which role, and what to do.
 pub fn draw_with_summary(card: &Card, paint: Paint) -> String {
@@ -24,16 +30,22 @@ pub fn draw_with_summary(card: &Card, paint: Paint) -> String {
 /// The map alone.
 pub fn draw(card: &Card, paint: Paint) -> String {
     let blocks = Blocks::on(card);
-    let style = Style::of(card, &blocks);
+    let style = Style::of(card, &blocks, WIDTH);
+    let widest = drawn(&blocks, &style, Paint::Plain).lines().map(str::len).max().unwrap_or(0);
+    let style = Style::of(card, &blocks, WIDTH - widest.saturating_sub(WIDTH));
+    drawn(&blocks, &style, paint)
+}
+
+fn drawn(blocks: &Blocks, style: &Style, paint: Paint) -> String {
     let in_breach: Vec<usize> =
         blocks.breaches().into_iter().flat_map(|breach| breach.blocks).collect();
     let numbered = blocks.iter().enumerate();
     let cells: Vec<Cell> = numbered
         .map(|(number, block)| {
-            Cell::new(number, block, &blocks, &style).marked_if(in_breach.contains(&number))
+            Cell::new(number, block, blocks, style).marked_if(in_breach.contains(&number))
         })
         .collect();
-    table(&cells, &style, paint).join("\n") + "\n"
+    table(&cells, style, paint).join("\n") + "\n"
 }
 
 /// How the pages of a block are shown.
@@ -42,19 +54,22 @@ enum Style {
     LogicalPages { pages: usize, width: usize },
     /// Each by a sign.
     Signs { pages: usize },
-    /// All together by a bar.
-    Bar { pages: usize },
+    /// All together by a bar, so many signs wide.
+    Bar { pages: usize, width: usize },
 }
 
 impl Style {
-    fn of(card: &Card, blocks: &Blocks) -> Style {
+    /// The style for a line of this width. What is short of the width of a screen is
+    /// taken from the pages: half of it from each of two columns.
+    fn of(card: &Card, blocks: &Blocks, line: usize) -> Style {
+        let short = WIDTH - line;
         let pages = card.shape.pages;
         let highest =
             blocks.iter().filter_map(used).map(|used| (used.logical_block + 1) * pages - 1);
         let width = highest.max().unwrap_or(0).to_string().len();
         if card.blocks > MOST_ROWS {
-            Style::Bar { pages }
-        } else if pages * (width + 1) <= WIDTH_FOR_PAGES {
+            Style::Bar { pages, width: BAR_WIDTH.saturating_sub(short.div_ceil(2)).max(1) }
+        } else if pages * (width + 1) <= WIDTH_FOR_PAGES - short.min(WIDTH_FOR_PAGES) {
             Style::LogicalPages { pages, width }
         } else {
             Style::Signs { pages }
@@ -63,7 +78,7 @@ impl Style {
 
     fn titles(&self) -> [&'static str; 5] {
         match self {
-            Style::Bar { .. } => ["b", "role    ", "l", "number", "fill"],
+            Style::Bar { width, .. } => ["b", "role    ", "l", "number", &"fill"[..4.min(*width)]],
             _ => ["block", "role    ", "logical", "number", "pages"],
         }
     }
@@ -88,16 +103,16 @@ impl Style {
                 signs.join(" ")
             }
             (Style::Signs { pages }, _) => "#".repeat(programmed) + &".".repeat(pages - programmed),
-            (Style::Bar { pages }, _) => bar(programmed, *pages),
+            (Style::Bar { pages, width }, _) => bar(programmed, *pages, *width),
         }
     }
 }
 
 /// A bar in which `#` is full and `+` is partly so.
-fn bar(programmed: usize, pages: usize) -> String {
-    let full = programmed * BAR_WIDTH / pages;
-    let partly = (programmed * BAR_WIDTH).div_ceil(pages) - full;
-    let empty = BAR_WIDTH - full - partly;
+fn bar(programmed: usize, pages: usize, width: usize) -> String {
+    let full = programmed * width / pages;
+    let partly = (programmed * width).div_ceil(pages) - full;
+    let empty = width - full - partly;
     ["#".repeat(full), "+".repeat(partly), ".".repeat(empty)].concat()
 }
 
@@ -166,7 +181,7 @@ fn table(cells: &[Cell], style: &Style, paint: Paint) -> Vec<String> {
     let height = cells.len().div_ceil(style.columns());
     let columns: Vec<&[Cell]> = cells.chunks(height).collect();
     let head = vec![line(' ', &titles, &widths); columns.len()];
-    let mut lines = vec![head.join("   ").trim_end().to_string()];
+    let mut lines = vec![head.join(GAP).trim_end().to_string()];
     for row in 0..height {
         let cells = columns.iter().filter_map(|column| column.get(row));
         let drawn: Vec<String> = cells
@@ -175,7 +190,7 @@ fn table(cells: &[Cell], style: &Style, paint: Paint) -> Vec<String> {
                 paint.role(cell.role, &line(mark, &cell.fields, &widths))
             })
             .collect();
-        lines.push(drawn.join("   ").trim_end().to_string());
+        lines.push(drawn.join(GAP).trim_end().to_string());
     }
     lines
 }
@@ -184,6 +199,35 @@ fn line(mark: char, fields: &[String; 5], widths: &[usize; 5]) -> String {
     let [block, role, logical, number, pages] = fields;
     let [b, r, l, n, p] = *widths;
     format!("{mark} {block:>b$}  {role:<r$}  {logical:>l$}  {number:>n$}  {pages:<p$}")
+}
+
+/// The map for other programs.
+pub fn to_json(card: &Card) -> Json {
+    let blocks = Blocks::on(card);
+    let numbered = blocks.iter().enumerate();
+    let each = numbered.map(|(number, block)| {
+        let used = used(block);
+        let broken = match block {
+            Block::Broken(rule) => Json::text(rule.to_string()),
+            _ => Json::Null,
+        };
+        let held = used.into_iter().flat_map(|used| {
+            used.offsets.iter().map(|offset| used.logical_block * card.shape.pages + offset)
+        });
+        Json::Object(vec![
+            ("block", Json::number(number)),
+            ("role", Json::text(name(blocks.role(block)).to_lowercase())),
+            ("breaks", broken),
+            ("logical_block", Json::number_if_any(used.map(|used| used.logical_block))),
+            ("number", Json::number_if_any(used.map(|used| used.number as usize))),
+            ("logical_pages", Json::numbers(held)),
+        ])
+    });
+    Json::Object(vec![
+        ("pages_per_block", Json::number(card.shape.pages)),
+        ("blocks", Json::List(each.collect())),
+        ("well_formed", Json::Flag(blocks.breaches().is_empty())),
+    ])
 }
 
 fn summary(card: &Card, blocks: &Blocks) -> String {

@@ -2,18 +2,17 @@
 //! files; each of them a file or, as `-`, standard input and output.
 
 use crate::failure::Failure;
+use crate::files::hold::{hold, For, Held};
+use crate::files::left::{self, Left};
+use crate::files::names::is_same;
+use crate::files::replace::{self, Whole};
+use crate::files::{self, guard, MOST_BYTES};
 use crate::image::{Image, DUMP_BYTES};
-use crate::replace::{self, Whole};
-use crate::stream;
+use crate::stream::{self, complain};
 use hamutsigra::{DATA_BYTES, SPARE_BYTES};
 use second::shape::{BLOCKS, PAGES};
-use std::fs::{self, File, OpenOptions};
-use std::io::{self, Read};
+use std::fs::{self, OpenOptions};
 use std::path::{Path, PathBuf};
-
-/// What goes on longer than this is no image: the largest card is far smaller,
-/// and a device may go on for ever.
-const MOST_BYTES: u64 = 1 << 24;
 
 /// One file, or a stream in its place.
 #[derive(Clone, Debug, PartialEq, Eq)]
@@ -24,9 +23,16 @@ pub enum Place {
     File(PathBuf),
 }
 
-/// Where an image is kept.
+/// Where an image is kept, and whether it is replaced even if it has other names.
 #[derive(Clone, Debug, PartialEq, Eq)]
-pub enum Store {
+pub struct Store {
+    parts: Parts,
+    force: bool,
+}
+
+/// The files of an image.
+#[derive(Clone, Debug, PartialEq, Eq)]
+enum Parts {
     /// 528 bytes a page, data then spare.
     Dump(Place),
     /// Two files.
@@ -37,7 +43,10 @@ pub enum Store {
 /// this is dropped, so that none starts from an image about to be replaced.
 pub struct Opened {
     pub image: Image,
-    _folder: Option<File>,
+    /// An interrupted write has left the second file to follow: the image is that of
+    /// the write as it will be then.
+    pub unfinished: bool,
+    _held: Held,
 }
 
 impl Place {
@@ -52,24 +61,75 @@ impl Place {
     pub fn read(&self, most: u64) -> Result<Vec<u8>, Failure> {
         match self {
             Place::Stream => stream::read(most),
-            Place::File(path) => read_file(path, most),
+            Place::File(path) => files::read(path, most),
         }
     }
 
-    fn name(&self) -> String {
-        self.path().map_or("standard input".into(), |path| path.display().to_string())
+    pub fn name(&self) -> String {
+        self.name_or("standard input")
+    }
+
+    fn name_or(&self, stream: &str) -> String {
+        self.path().map_or(stream.into(), |path| path.display().to_string())
+    }
+
+    /// Refuses to write over the image that is read.
+    pub fn is_not(&self, store: &Store) -> Result<(), Failure> {
+        match self.path() {
+            Some(path) if store.paths().any(|image| is_same(image, path)) => {
+                Err(Failure::Usage(format!("{}: this is the image itself", path.display())))
+            }
+            _ => Ok(()),
+        }
     }
 }
 
 impl Store {
-    /// The image, to look at it.
+    pub fn dump(dump: Place) -> Store {
+        Store { parts: Parts::Dump(dump), force: false }
+    }
+
+    pub fn pair(data: Place, spare: Place) -> Store {
+        Store { parts: Parts::Pair { data, spare }, force: false }
+    }
+
+    pub fn with_force(self, force: bool) -> Store {
+        Store { force, ..self }
+    }
+
+    /// The names of its files, as they were given.
+    pub fn name(&self) -> String {
+        self.name_or("standard input")
+    }
+
+    /// The same of an image that is written.
+    pub fn name_written(&self) -> String {
+        self.name_or("standard output")
+    }
+
+    fn name_or(&self, stream: &str) -> String {
+        let names = self.places().into_iter().map(|place| place.name_or(stream));
+        names.collect::<Vec<_>>().join(" and ")
+    }
+
+    pub fn is_dump(&self) -> bool {
+        matches!(self.parts, Parts::Dump(_))
+    }
+
+    /// The image, to look at it. Nothing is written: what an interrupted write has left
+    /// to follow is seen in its place.
     pub fn load(&self) -> Result<Image, Failure> {
-        Ok(self.open()?.image)
+        let opened = self.open(For::Looking)?;
+        if opened.unfinished {
+            complain(&self.unfinished());
+        }
+        Ok(opened.image)
     }
 
     /// The image, to change it. A new file will take the place of the old one, so
     /// what is no plain file (a device, for one) is refused, and so is a file that
-    /// this user may not write to.
+    /// this user may not write to, or that has other names, unless they may be left
+    /// behind.
     pub fn open_to_change(&self) -> Result<Opened, Failure> {
         for path in self.paths() {
             if fs::metadata(path).is_ok_and(|is| !is.is_file() && !is.is_dir()) {
@@ -78,36 +138,55 @@ impl Store {
                 return Err(Failure::CannotRead(message));
             }
         }
-        let opened = self.open()?;
+        let opened = self.open(For::Changing)?;
         for path in self.paths() {
             let writable = OpenOptions::new().write(true).open(path);
             writable.map_err(|error| Failure::cannot_create(path, &error))?;
+            if !self.force {
+                guard::one_name(path)?;
+            }
         }
         Ok(opened)
     }
 
-    fn open(&self) -> Result<Opened, Failure> {
+    fn open(&self, aim: For) -> Result<Opened, Failure> {
         // A stream first: it may come from a command that needs the folder.
         let streamed = if self.is_stream() { stream::read(MOST_BYTES + 1)? } else { Vec::new() };
         let paths: Vec<&Path> = self.paths().collect();
-        let held = paths.first().and_then(|path| hold(&replace::folder(path)));
-        if let [data, spare] = paths[..] {
-            replace::settle(data, spare)?;
-        }
-        let pages = |place: &Place, page_bytes: usize| {
-            let bytes = match place {
-                Place::Stream => streamed.clone(),
-                Place::File(path) => read_file(path, MOST_BYTES + 1)?,
-            };
-            whole_pages(place, bytes, page_bytes)
+        let held = hold(paths.iter().copied(), aim);
+        let follows = match left::find(&paths)? {
+            Left::Follows(_, bytes) => Some(bytes),
+            Left::Nothing | Left::Remains(_) => None,
         };
-        let image = match self {
-            Store::Dump(dump) => Image::from_dump(&pages(dump, DUMP_BYTES)?),
-            Store::Pair { data, spare } => {
-                Image { data: pages(data, DATA_BYTES)?, spare: pages(spare, SPARE_BYTES)? }
+        let bytes = |place: &Place| match place {
+            Place::Stream => Ok(streamed.clone()),
+            Place::File(path) => files::read(path, MOST_BYTES + 1),
+        };
+        let image = match &self.parts {
+            Parts::Dump(dump) => Image::from_dump(&whole_pages(dump, bytes(dump)?, DUMP_BYTES)?),
+            Parts::Pair { data, spare } => {
+                let of_spare = follows.clone().map_or_else(|| bytes(spare), Ok)?;
+                Image {
+                    data: whole_pages(data, bytes(data)?, DATA_BYTES)?,
+                    spare: whole_pages(spare, of_spare, SPARE_BYTES)?,
+                    two_files: true,
+                }
             }
         };
-        Ok(Opened { image, _folder: held })
+        Ok(Opened { image, unfinished: follows.is_some(), _held: held })
+    }
+
+    /// Lets the second file follow that an interrupted write has left.
+    pub fn finish(&self) -> Result<(), Failure> {
+        left::end(&self.paths().collect::<Vec<_>>()).map(|_| ())
+    }
+
+    fn unfinished(&self) -> String {
+        let names = self.name();
+        format!(
+            "card: a write to {names} was interrupted between the two; they are seen as that \
+             write leaves them.\n      `card power-up` ends it; do not copy them before.\n"
+        )
     }
 
     /// Puts a changed image in the place of the old one, whole.
@@ -125,9 +204,9 @@ impl Store {
         image: &Image,
         put_files: fn(&[Whole]) -> Result<(), Failure>,
     ) -> Result<(), Failure> {
-        let parts: Vec<(&Place, Vec<u8>)> = match self {
-            Store::Dump(dump) => vec![(dump, image.to_dump())],
-            Store::Pair { data, spare } => {
+        let parts: Vec<(&Place, Vec<u8>)> = match &self.parts {
+            Parts::Dump(dump) => vec![(dump, image.to_dump())],
+            Parts::Pair { data, spare } => {
                 vec![(data, image.data.clone()), (spare, image.spare.clone())]
             }
         };
@@ -152,24 +231,11 @@ impl Store {
     }
 
     fn places(&self) -> Vec<&Place> {
-        match self {
-            Store::Dump(dump) => vec![dump],
-            Store::Pair { data, spare } => vec![data, spare],
+        match &self.parts {
+            Parts::Dump(dump) => vec![dump],
+            Parts::Pair { data, spare } => vec![data, spare],
         }
     }
-}
-
-/// Reads at most this many bytes of a file.
-fn read_file(path: &Path, most: u64) -> Result<Vec<u8>, Failure> {
-    let mut bytes = Vec::new();
-    let read = File::open(path).and_then(|file| {
-        if file.metadata()?.is_dir() {
-            return Err(io::Error::other("it is a folder"));
-        }
-        file.take(most).read_to_end(&mut bytes)
-    });
-    read.map_err(|error| Failure::cannot_read(path, &error))?;
-    Ok(bytes)
 }
 
 /// The bytes, if they are pages of this many bytes: whole ones, and as many as a card
@@ -187,12 +253,4 @@ fn whole_pages(place: &Place, bytes: Vec<u8>, page_bytes: usize) -> Result<Vec<u
         _ => return Ok(bytes),
     };
     Err(Failure::NoImage(format!("{}: no image: {wrong}", place.name())))
-}
-
-/// Waits until no other command of the tool holds the folder, then holds it. Not
-/// every file system can do this; there the commands are not kept apart.
-fn hold(folder: &Path) -> Option<File> {
-    let folder = File::open(folder).ok()?;
-    folder.lock().ok()?;
-    Some(folder)
 }

@@ -61,16 +61,32 @@ impl Asked<'_> {
             Refusal::TooFewBlocks => {
                 "Check -P, -L and -K. If they are right, take another chip, or a smaller L or K"
             }
+            Refusal::IllFormed if self.is_of_two_moments() => {
+                "There are data without spare bytes, as in two files of which one is older: copied \
+                 while they were written, for one. Copy both again"
+            }
             // A wrong shape is the likelier cause, and a format cannot be undone.
             Refusal::IllFormed => {
-                "Check -P, -L and -K. If they are right, only `card format` helps: all content \
-                 is lost"
+                "Check -P, -L and -K. `card shape` tells which fit. If they are right, `card \
+                 salvage` reads out what is certain; then only `card format` helps: all content is \
+                 lost"
             }
             Refusal::NeedsPowerUp => "Run `card power-up` first",
-            Refusal::OutOfNumbers => "Read the pages out, format the card, and write them again",
+            Refusal::OutOfNumbers => {
+                "Run `card renew`: it reads the pages out, formats the card and writes them again"
+            }
             Refusal::Cut(_) if self.verb == Verb::Format => "Run `card format` again",
             Refusal::Cut(_) => "Run `card power-up`",
         }
+    }
+
+    /// Whether two files look as if a write had come between the copies of them: a page
+    /// has its data and not yet its spare bytes.
+    fn is_of_two_moments(&self) -> bool {
+        let Image { data, spare, two_files } = self.image;
+        let mut pages = data.as_chunks().0.iter().zip(spare.as_chunks().0);
+        *two_files
+            && pages.any(|(data, spare)| *spare == [255; SPARE_BYTES] && *data != [255; DATA_BYTES])
     }
 
     /// The first limit that is not kept. A file has whole pages, so that it is enough

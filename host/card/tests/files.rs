@@ -4,7 +4,7 @@ mod common;
 
 use common::{run, Folder, Run, DUMP_BYTES, SHAPE_ARGUMENTS};
 use std::fs::{self, Permissions};
-use std::os::unix::fs::{symlink, FileTypeExt, MetadataExt, PermissionsExt};
+use std::os::unix::fs::{chown, symlink, FileTypeExt, MetadataExt, PermissionsExt};
 use std::os::unix::process::CommandExt;
 use std::process::Command;
 
@@ -146,9 +146,9 @@ fn an_unwritable_folder() {
     let denied = |line: &str, name: &str| {
         as_nobody(&folder, line).expect_failure(73, &[name, "denied"]);
     };
-    denied(&line("write", "card.img"), "card.img.card-new: cannot be created");
-    denied("new other.img -P 4 -B 4", "other.img: cannot be created");
-    denied(&format!("read card.img 0 page {SHAPE_ARGUMENTS}"), "page.card-new");
+    denied(&line("write", "card.img"), "card.img.card-note: cannot be created");
+    denied("new other.img -P 4 -B 4", "other.img.card-note: cannot be created");
+    denied(&format!("read card.img 0 page {SHAPE_ARGUMENTS}"), "page.card-note");
     as_nobody(&folder, &line("show", "card.img")).expect_done();
 
     set_mode(&folder, ".", 0o755);
@@ -177,35 +177,87 @@ fn an_unreadable_file() {
     run.expect_failure(66, &["card.img: cannot be read", "denied"]);
 }
 
+/// What has the name of a new file is not known to be the tool's: it stays.
 #[test]
 fn something_in_the_way_of_the_new_file() {
     let folder = Folder::after_case_4();
     let before = folder.state("card.img");
-    fs::create_dir(folder.path("card.img.card-new")).expect("a folder in the way");
-    folder.write(4, 15, "").expect_failure(73, &["card.img.card-new: cannot be created"]);
-    assert_eq!(folder.state("card.img"), before);
-}
-
-#[test]
-fn a_link_in_the_way_of_the_new_file() {
-    let folder = Folder::after_case_4();
     folder.put("other", b"of somebody else");
-    symlink("other", folder.path("card.img.card-new")).expect("a link in the way");
-    folder.write(4, 15, "").expect_done();
-    assert_eq!(folder.on_card("read", "4").out, [15; 512]);
-    assert!(!folder.path("card.img").is_symlink());
+    for name in ["card.img.card-new", "card.img.card-note"] {
+        let way = folder.path(name);
+        let refused = || {
+            let words = [name, "is in the way of a new file", "move it away"];
+            folder.write(4, 15, "").expect_failure(73, &words);
+            folder.on_card("show", "").expect_done();
+            assert_eq!(folder.state("card.img"), before);
+        };
+        fs::create_dir(&way).expect("a folder in the way");
+        refused();
+        fs::remove_dir(&way).expect("still there");
+        symlink("other", &way).expect("a link in the way");
+        refused();
+        fs::remove_file(&way).expect("still there");
+        folder.put(name, b"my own");
+        refused();
+        assert_eq!(folder.bytes(name), b"my own");
+        fs::remove_file(&way).expect("still there");
+    }
     assert_eq!(folder.bytes("other"), b"of somebody else");
+    folder.write(4, 15, "").expect_done();
     assert_eq!(folder.names(), ["card.img", "other"]);
 }
 
+/// A file with two names: after a write the other one would have the old bytes.
 #[test]
-fn what_a_crash_left_is_no_harm() {
+fn a_hard_link_is_not_cut_off() {
     let folder = Folder::after_case_4();
-    folder.put("card.img.card-new", b"a part of an image");
+    fs::hard_link(folder.path("card.img"), folder.path("backup")).expect("a hard link");
+    let before = folder.state("card.img");
+    for verb in ["write", "format"] {
+        let run = folder.card_with_input(&line(verb, "card.img"), &[15; 512]);
+        run.expect_failure(73, &["card.img: this file has 2 names (hard links)", "--force"]);
+        assert_eq!(
+            (folder.state("card.img"), folder.state("backup")),
+            (before.clone(), before.clone())
+        );
+    }
     folder.on_card("show", "").expect_done();
-    folder.write(4, 15, "").expect_done();
-    assert_eq!(folder.on_card("read", "4").out, [15; 512]);
-    assert_eq!(folder.names(), ["card.img"]);
+    folder.on_card("power-up", "").expect_failure(73, &["hard links"]);
+    folder.write(0, 15, "--force").expect_done();
+    assert_eq!(folder.state("backup"), before);
+    assert_eq!(folder.on_card("read", "0").out, [15; 512]);
+}
+
+/// A page is not written over what may be a card.
+#[test]
+fn a_read_does_not_overwrite_a_card() {
+    let folder = Folder::after_case_4();
+    folder.card("new blank.img -P 2 -B 3").expect_done();
+    folder.card("new --data d --spare s -P 8 -B 4").expect_done();
+    let write = "write 1 --data d --spare s -P 8 -L 2 -K 1";
+    folder.card_with_input(write, &[1; 512]).expect_done();
+    assert_eq!(folder.bytes("s").len(), 512, "as long as a page");
+    fs::copy(folder.path("card.img"), folder.path("other.img")).expect("a copy");
+    for (name, what) in [
+        ("other.img", "the image of a card"),
+        ("blank.img", "the image of a card"),
+        ("d", "the data bytes of a card"),
+        ("s", "the spare bytes of a card"),
+    ] {
+        let before = folder.state(name);
+        for hex in ["", "--hex"] {
+            let run = folder.on_card("read", &format!("1 {name} {hex}"));
+            run.expect_failure(73, &[name, "this may be ", what, "Give another name, or --force"]);
+            assert_eq!(folder.state(name), before);
+        }
+        folder.on_card("read", &format!("1 {name} --force")).expect_done();
+        assert_eq!(folder.bytes(name), [12; 512]);
+    }
+    // A page read before is no card, whatever is in it.
+    folder.on_card("read", "2 d").expect_done();
+    fs::hard_link(folder.path("d"), folder.path("d2")).expect("a hard link");
+    folder.on_card("read", "3 d").expect_failure(73, &["d: this file has 2 names"]);
+    assert_eq!(folder.bytes("d2"), [13; 512]);
 }
 
 /// Where a file may not grow, writing to it ends the tool on the spot.
@@ -220,7 +272,8 @@ fn a_crash_while_writing_loses_nothing() {
     let crashed = run(command, &[15; 512]);
     assert!(crashed.status > 128, "ended by a signal, not with {}", crashed.status);
     assert_eq!(folder.state("card.img"), before);
-    assert_eq!(folder.names(), ["card.img", "card.img.card-new"]);
+    assert_eq!(folder.names(), ["card.img", "card.img.card-new", "card.img.card-note"]);
+    folder.on_card("show", "").expect_done();
 
     folder.write(4, 15, "").expect_done();
     assert_eq!(folder.on_card("read", "4").out, [15; 512]);
@@ -269,6 +322,48 @@ fn the_image_is_replaced_by_a_new_file_with_its_permissions() {
     assert_eq!(folder.names(), ["card.img"]);
 }
 
+/// A user who may write to the image by its group: the image stays the group's, even
+/// where new files in the folder are given to another group. (Only root can try.)
+#[test]
+fn the_group_of_the_image_is_kept() {
+    let folder = with_tool();
+    if fs::metadata(&folder).expect("the folder").uid() != 0 {
+        return;
+    }
+    chown(folder.path("card.img"), Some(0), Some(65534)).expect("root");
+    set_mode(&folder, "card.img", 0o664);
+    chown(folder.path("."), Some(0), Some(12345)).expect("root");
+    set_mode(&folder, ".", 0o2777);
+    as_nobody(&folder, &line("write", "card.img")).expect_done();
+    let after = fs::metadata(folder.path("card.img")).expect("the image");
+    assert_eq!((after.uid(), after.gid(), after.mode() & 0o7777), (65534, 65534, 0o664));
+}
+
+/// What was done is done, whether or not it can be said: that has a status of its own.
+#[test]
+fn a_write_that_cannot_be_reported_is_done() {
+    let folder = Folder::after_case_4();
+    folder.put("page", &[15; 512]);
+    let tool = env!("CARGO_BIN_EXE_card");
+    let to_full = |line: &str| {
+        let mut command = Command::new("sh");
+        command.args(["-c", &format!("'{tool}' {line} > /dev/full")]).current_dir(&folder);
+        run(command, &[])
+    };
+    let words =
+        ["standard output", "No space left", "All was done all the same", "write of page 4"];
+    to_full(&format!("write card.img 4 page {SHAPE_ARGUMENTS}")).expect_failure(75, &words);
+    assert_eq!(folder.on_card("read", "4").out, [15; 512]);
+    to_full(&format!("power-up card.img {SHAPE_ARGUMENTS}")).expect_failure(75, &["All was done"]);
+    to_full(&format!("format card.img {SHAPE_ARGUMENTS}")).expect_failure(75, &["All was done"]);
+    assert_eq!(folder.bytes("card.img"), [255; DUMP_BYTES]);
+    // What there is to show is not shown: that is a write that broke off.
+    to_full(&format!("show card.img {SHAPE_ARGUMENTS}")).expect_failure(74, &["standard output"]);
+    let help = folder.card("--help").text;
+    assert!(help.contains("75 all was done, but could not be said"), "{help}");
+    assert!(help.contains("74 writing broke off"));
+}
+
 #[test]
 fn a_link_stays_a_link() {
     let folder = Folder::after_case_4();
@@ -303,7 +398,8 @@ fn commands_on_one_image_wait_for_each_other() {
             let line = format!("write {name} {number} {SHAPE_ARGUMENTS}");
             let folder = &folder;
             scope.spawn(move || {
-                folder.card_with_input(&line, &[100 + number; 512]).expect_done();
+                // On a busy machine it may say that it waits.
+                folder.card_with_input(&line, &[100 + number; 512]).expect_status(0);
             });
         }
     });

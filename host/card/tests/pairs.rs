@@ -66,32 +66,20 @@ fn lengths_that_do_not_fit() {
         .expect_failure(66, &["none"]);
 }
 
-/// The state between the two renames: the new data are in place, the new spare
-/// bytes still beside the old ones.
+/// Files that only have the names of new ones, and no note beside them.
 #[test]
-fn an_interrupted_replacement_is_finished() {
-    let folder = pair();
-    let old_spare = folder.bytes("s");
-    folder.card_with_input(&format!("write 4 {PAIR}"), &[15; 512]).expect_done();
-    let new = (folder.bytes("d"), folder.bytes("s"));
-    folder.put("s.card-new", &new.1);
-    folder.put("s", &old_spare);
-
-    assert_eq!(folder.card(&format!("read 4 {PAIR}")).expect_done().out, [15; 512]);
-    assert_eq!((folder.bytes("d"), folder.bytes("s")), new);
-    assert_eq!(folder.names(), ["card.img", "d", "s"]);
-}
-
-/// The state before the first rename: both old files are in place.
-#[test]
-fn a_replacement_that_had_not_begun_is_dropped() {
+fn files_of_somebody_else_stay_and_are_not_followed() {
     let folder = pair();
     let old = (folder.bytes("d"), folder.bytes("s"));
-    folder.put("d.card-new", &[1; 512]);
-    folder.put("s.card-new", &[1; 16]);
-    assert_eq!(folder.card(&format!("read 3 {PAIR}")).expect_done().out, [14; 512]);
-    assert_eq!((folder.bytes("d"), folder.bytes("s")), old);
-
+    for name in ["d.card-new", "s.card-new", "s.card-note"] {
+        folder.put(name, &old.1);
+        assert_eq!(folder.card(&format!("read 3 {PAIR}")).expect_done().out, [14; 512]);
+        let run = folder.card_with_input(&format!("write 4 {PAIR}"), &[15; 512]);
+        run.expect_failure(73, &[name, "is in the way", "move it away"]);
+        assert_eq!((folder.bytes("d"), folder.bytes("s")), old);
+        assert_eq!(folder.bytes(name), old.1);
+        fs::remove_file(folder.path(name)).expect("still there");
+    }
     folder.card_with_input(&format!("write 4 {PAIR}"), &[15; 512]).expect_done();
     assert_eq!(folder.names(), ["card.img", "d", "s"]);
 }
@@ -107,14 +95,15 @@ fn a_part_of_a_new_file_does_not_follow() {
 }
 
 #[test]
-fn what_a_crash_left_does_not_follow_a_new_image() {
+fn what_somebody_left_does_not_follow_a_new_image() {
     let folder = pair();
+    let old = folder.bytes("s");
     fs::rename(folder.path("s"), folder.path("s.card-new")).expect("renamed");
     fs::remove_file(folder.path("d")).expect("removed");
-    folder.card("new --data d --spare s -P 4 -B 4").expect_done();
-    folder.card(&format!("read 3 {PAIR}")).expect_done();
-    assert_eq!(folder.bytes("s"), [255; 256]);
-    assert_eq!(folder.names(), ["card.img", "d", "s"]);
+    let run = folder.card("new --data d --spare s -P 4 -B 4");
+    run.expect_failure(73, &["s.card-new: is in the way"]);
+    assert_eq!(folder.names(), ["card.img", "s.card-new"]);
+    assert_eq!(folder.bytes("s.card-new"), old);
 }
 
 #[test]
@@ -122,8 +111,47 @@ fn a_second_file_that_cannot_be_made_leaves_both_old_ones() {
     let folder = pair();
     let before = (folder.state("d"), folder.state("s"));
     fs::create_dir(folder.path("s.card-new")).expect("a folder in the way");
-    folder.put("d.card-new", b"left by a crash");
     let run = folder.card_with_input(&format!("write 4 {PAIR}"), &[15; 512]);
-    run.expect_failure(73, &["s.card-new: cannot be created"]);
+    run.expect_failure(73, &["s.card-new: is in the way"]);
     assert_eq!((folder.state("d"), folder.state("s")), before);
+    assert_eq!(folder.names(), ["card.img", "d", "s", "s.card-new"]);
+}
+
+/// The names are in two folders, and two commands go through them in either order.
+#[test]
+fn two_files_in_two_folders() {
+    let folder = pair();
+    fs::create_dir(folder.path("one")).expect("a folder");
+    fs::create_dir(folder.path("two")).expect("a folder");
+    folder.card("new --data one/d --spare two/s -P 4 -B 4").expect_done();
+    let line = "write 5 --data one/d --spare two/s -P 4 -L 2 -K 1";
+    folder.card_with_input(line, &[9; 512]).expect_done();
+    let line = "read 5 --data one/d --spare two/s -P 4 -L 2 -K 1";
+    assert_eq!(folder.card(line).expect_done().out, [9; 512]);
+    for name in ["one", "two"] {
+        assert_eq!(fs::read_dir(folder.path(name)).expect("a folder").count(), 1);
+    }
+}
+
+/// Six writers and six who look, at once: nobody sees one file new and the other old.
+#[test]
+fn commands_on_two_files_wait_for_each_other() {
+    let folder = pair();
+    std::thread::scope(|scope| {
+        for number in 0..6 {
+            let folder = &folder;
+            scope.spawn(move || {
+                let line = format!("write {number} {PAIR}");
+                // On a busy machine they may say that they wait.
+                folder.card_with_input(&line, &[100 + number; 512]).expect_status(0);
+            });
+            scope.spawn(move || {
+                folder.card(&format!("check {PAIR}")).expect_status(0);
+            });
+        }
+    });
+    for number in 0..6 {
+        assert_eq!(folder.card(&format!("read {number} {PAIR}")).out, [100 + number; 512]);
+    }
+    assert_eq!(folder.names(), ["card.img", "d", "s"]);
 }

@@ -104,7 +104,7 @@ fn answer_6_needs_power_up() {
 fn answer_7_out_of_numbers() {
     let folder = with_spare(0, &[254, 255, 255, 255, 240, 255, 0, 0]);
     let line = format!("write card.img 4 {SHAPE_ARGUMENTS}");
-    refused(&folder, &line, &[1; 512], 7, &["sequence numbers", "Read the pages out"]);
+    refused(&folder, &line, &[1; 512], 7, &["sequence numbers", "Run `card renew`"]);
     folder.write(0, 1, "").expect_done();
 }
 

@@ -7,7 +7,10 @@ use common::{Folder, DUMP_BYTES, SHAPE_ARGUMENTS};
 #[test]
 fn an_image_passes_through() {
     let folder = Folder::new();
-    let blank = folder.card("new - -P 4 -B 4").expect_done().out.clone();
+    let new = folder.card("new - -P 4 -B 4");
+    let said = "standard output: 4 blocks of 4 pages, erased, 8448 bytes\n";
+    assert_eq!((new.status, new.error.as_str()), (0, said));
+    let blank = new.out;
     assert_eq!(blank, [255; DUMP_BYTES]);
 
     folder.put("page", &[9; 512]);

@@ -3,7 +3,7 @@
 mod common;
 
 use common::{dump, Folder, DUMP_BYTES, PAGE_IN_DUMP, SHAPE};
-use hamutsigra::NO_CUT;
+use hamutsigra::Card;
 
 #[test]
 fn new_makes_an_erased_chip() {
@@ -28,12 +28,11 @@ fn new_marks_bad_blocks() {
 #[test]
 fn write_does_to_the_file_what_the_layer_does_to_the_image() {
     let folder = Folder::after_case_4();
-    let (mut data, mut spare) = (vec![255; 4 * 4 * 512], vec![255; 4 * 4 * 16]);
+    let mut card = Card::new(vec![255; 4 * 4 * 512], vec![255; 4 * 4 * 16], SHAPE);
     for (number, fill) in [(1, 10), (0, 11), (1, 12), (2, 13), (3, 14)] {
-        hamutsigra::write(&mut data, &mut spare, &[fill; 512], SHAPE, number, NO_CUT)
-            .expect("a write");
+        card.write(number, &[fill; 512], None).expect("a write");
     }
-    assert_eq!(folder.bytes("card.img"), dump(&data, &spare));
+    assert_eq!(folder.bytes("card.img"), dump(card.data(), card.spare()));
     let run = folder.write(4, 15, "");
     assert_eq!(run.expect_done().text, "write of page 4: 5 programs and 2 erases\n");
 }

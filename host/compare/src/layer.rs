@@ -4,6 +4,12 @@ use crate::command::{Action, Command, Lent, Reply};
 use crate::faults;
 use second::Answer;
 
+/// The proved layer by its functions: the comparison lends buffers of any length.
+mod proved {
+    pub use hamutsigra::raw::{format, lend, power_up, read, write};
+    pub use hamutsigra::{Answer, Shape};
+}
+
 /// A layer by its name, and what it does with a command.
 #[derive(Clone, Copy)]
 pub struct Layer {
@@ -54,7 +60,7 @@ macro_rules! layer {
 }
 
 /// The proved layer.
-pub const PROVED: Layer = layer!("the proved layer", hamutsigra, |answer: layer::Answer| {
+pub const PROVED: Layer = layer!("the proved layer", self::proved, |answer: layer::Answer| {
     let (number, steps) = match answer {
         Ok(steps) => (0, steps),
         Err(refusal) => (refusal.number(), refusal.steps()),

@@ -1,14 +1,14 @@
 //! What the card replies, taken out of the number that the library gives.
 
-use std::error::Error;
-use std::fmt;
+use core::error::Error;
+use core::fmt;
 
 /// What a command gives: the steps done if all were done (answer 0), else the
 /// refusal.
 pub type Answer = Result<Steps, Refusal>;
 
 /// The steps that a command has done.
-#[derive(Clone, Copy, Debug, Default, PartialEq, Eq)]
+#[derive(Clone, Copy, Debug, Default, PartialEq, Eq, Hash)]
 pub struct Steps {
     /// The pages programmed.
     pub programs: u32,
@@ -18,7 +18,7 @@ pub struct Steps {
 
 /// Why a command has not done all. The lowest number that applies is given; 1 to
 /// 7 have changed nothing.
-#[derive(Clone, Copy, Debug, PartialEq, Eq)]
+#[derive(Clone, Copy, Debug, PartialEq, Eq, Hash)]
 pub enum Refusal {
     /// 1: shape or image length outside the limits.
     OutsideLimits,
@@ -40,7 +40,8 @@ pub enum Refusal {
 
 impl Refusal {
     /// The number of the answer, 1 to 8.
-    pub fn number(self) -> u8 {
+    #[must_use]
+    pub const fn number(self) -> u8 {
         match self {
             Refusal::OutsideLimits => 1,
             Refusal::WrongBuffer => 2,
@@ -54,10 +55,11 @@ impl Refusal {
     }
 
     /// The steps done all the same.
-    pub fn steps(self) -> Steps {
+    #[must_use]
+    pub const fn steps(self) -> Steps {
         match self {
             Refusal::Cut(steps) => steps,
-            _ => Steps::default(),
+            _ => Steps { programs: 0, erases: 0 },
         }
     }
 }
@@ -82,7 +84,7 @@ impl Error for Refusal {}
 /// The answer is in bits 0 to 7, programs in bits 8 to 31, erases in bits 32 to
 /// 63.
 pub(crate) fn unpack(result: u64) -> Answer {
-    let programs = (result >> 8) as u32 & 0xff_ffff;
+    let programs = (result >> 8 & 0xff_ffff) as u32;
     let erases = (result >> 32) as u32;
     let steps = Steps { programs, erases };
     let refusal = match result & 0xff {

@@ -8,7 +8,7 @@
 
 #![deny(unsafe_op_in_unsafe_fn)]
 
-use crate::Shape;
+use crate::{Shape, TableEntry};
 
 extern "C" {
     fn hamutsigra_format(
@@ -72,6 +72,13 @@ extern "C" {
         logs: usize,
         number: usize,
     ) -> u64;
+}
+
+/// The table of power-up as the pairs of numbers that it is.
+pub fn numbers(table: &mut [TableEntry]) -> &mut [[u16; 2]] {
+    // SAFETY: a TableEntry is a pair of numbers and nothing else (`repr(transparent)`),
+    // and any two numbers are one.
+    unsafe { core::slice::from_raw_parts_mut(table.as_mut_ptr().cast(), table.len()) }
 }
 
 pub fn format(data: &mut [u8], spare: &mut [u8], shape: Shape, cut: usize) -> u64 {

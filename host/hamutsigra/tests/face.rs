@@ -2,12 +2,12 @@
 //! refusal comes back as itself. (That the answers are the right ones is for the
 //! proofs and for `compare`.)
 
-use hamutsigra::{format, lend, power_up, read, write, Refusal, Shape, Steps, NO_BLOCK, NO_CUT};
+use hamutsigra::{raw, Card, Refusal, Shape, Steps, TableEntry};
 
 const SHAPE: Shape = Shape { pages: 4, logical: 2, logs: 1 };
 
-fn blank(blocks: usize) -> (Vec<u8>, Vec<u8>) {
-    (vec![255; blocks * 4 * 512], vec![255; blocks * 4 * 16])
+fn blank(blocks: usize) -> Card<Vec<u8>> {
+    Card::new(vec![255; blocks * 4 * 512], vec![255; blocks * 4 * 16], SHAPE)
 }
 
 fn steps(programs: u32, erases: u32) -> Steps {
@@ -15,86 +15,113 @@ fn steps(programs: u32, erases: u32) -> Steps {
 }
 
 /// The small card of document 01 after case 4: page 3 is alone in the log block.
-fn after_case_4() -> (Vec<u8>, Vec<u8>) {
-    let (mut data, mut spare) = blank(4);
+fn after_case_4() -> Card<Vec<u8>> {
+    let mut card = blank(4);
     for (number, fill) in [(1, 10), (0, 11), (1, 12), (2, 13)] {
-        let answer = write(&mut data, &mut spare, &[fill; 512], SHAPE, number, NO_CUT);
-        assert_eq!(answer, Ok(steps(1, 0)));
+        assert_eq!(card.write(number, &[fill; 512], None), Ok(steps(1, 0)));
     }
-    let answer = write(&mut data, &mut spare, &[14; 512], SHAPE, 3, NO_CUT);
-    assert_eq!(answer, Ok(steps(5, 1)));
-    (data, spare)
+    assert_eq!(card.write(3, &[14; 512], None), Ok(steps(5, 1)));
+    card
 }
 
 #[test]
 fn written_pages_are_read_and_lent() {
-    let (data, spare) = after_case_4();
+    let card = after_case_4();
     for (number, fill) in [(0, 11), (1, 12), (2, 13), (3, 14), (4, 255)] {
+        assert_eq!(card.read(number), Ok([fill; 512]));
         let mut page = [7; 512];
-        assert_eq!(read(&data, &spare, &mut page, SHAPE, number), Ok(Steps::default()));
+        assert_eq!(card.read_into(number, &mut page), Ok(()));
         assert_eq!(page, [fill; 512]);
     }
-    let lent = lend(&data, &spare, SHAPE, 2).expect("page 2 is held in block 1");
-    assert_eq!(lent.at, (4 + 2) * 512);
-    assert_eq!(lent.bytes, [13; 512]);
-    assert_eq!(lend(&data, &spare, SHAPE, 4), None, "nothing holds page 4");
-    assert_eq!(lend(&data, &spare, SHAPE, 8), None, "page 8 is out of range");
+    let lent = card.lend(2).expect("page 2 is held in block 1");
+    assert_eq!((lent.at, lent.bytes), ((4 + 2) * 512, &[13; 512]));
+    assert_eq!(card.lend(4), None, "nothing holds page 4");
+    assert_eq!(card.lend(8), None, "page 8 is out of range");
+    let mut page = [7; 512];
+    assert_eq!(card.read_into(8, &mut page), Err(Refusal::OutOfRange));
+    assert_eq!(page, [7; 512], "a refusal leaves the page");
+}
+
+#[test]
+fn a_card_owns_its_bytes_or_is_lent_them() {
+    let (mut data, mut spare) = ([255; 4 * 4 * 512], [255; 4 * 4 * 16]);
+    let owned = Card::new(data, spare, SHAPE);
+    let mut lent = Card::new(&mut data[..], &mut spare[..], SHAPE);
+    assert_eq!(lent.write(5, &[7; 512], None), Ok(steps(1, 0)));
+    assert_eq!(owned.read(5), Ok([255; 512]), "it has bytes of its own");
+    let looked_at = Card::new(&data, &spare, SHAPE);
+    assert_eq!(looked_at.read(5), Ok([7; 512]));
+    assert_eq!(looked_at.lent().read(5), looked_at.read(5));
+    assert_eq!(looked_at.shape(), SHAPE);
+    let other = looked_at.with_shape(Shape { logical: 1, ..SHAPE });
+    assert_eq!(other.read(5), Err(Refusal::OutOfRange));
+    assert_eq!(other.into_parts(), (&data, &spare));
 }
 
 #[test]
 fn a_cut_write_says_how_far_it_came() {
-    let (mut data, mut spare) = after_case_4();
-    let answer = write(&mut data, &mut spare, &[15; 512], SHAPE, 4, 5);
-    assert_eq!(answer, Err(Refusal::Cut(steps(4, 1))));
+    let mut card = after_case_4();
+    assert_eq!(card.write(4, &[15; 512], Some(5)), Err(Refusal::Cut(steps(4, 1))));
+    assert_eq!(card.write(4, &[15; 512], None), Err(Refusal::NeedsPowerUp));
 
-    let answer = write(&mut data, &mut spare, &[15; 512], SHAPE, 4, NO_CUT);
-    assert_eq!(answer, Err(Refusal::NeedsPowerUp));
-
-    let mut table = [7; 4];
-    let answer = power_up(&mut data, &mut spare, &mut table, SHAPE, 0);
-    assert_eq!((answer, table), (Err(Refusal::Cut(steps(0, 0))), [7; 4]));
-    let answer = power_up(&mut data, &mut spare, &mut table, SHAPE, NO_CUT);
-    assert_eq!(answer, Ok(steps(0, 1)));
-    assert_eq!(table, [2, NO_BLOCK, NO_BLOCK, NO_BLOCK]);
+    let mut table = [TableEntry::default(); 2];
+    assert_eq!(card.power_up(&mut table, Some(0)), Err(Refusal::Cut(steps(0, 0))));
+    assert_eq!(table, [TableEntry::default(); 2], "no table is filled");
+    assert_eq!(card.power_up(&mut table, None), Ok(steps(0, 1)));
+    let blocks = table.map(|entry| (entry.data_block(), entry.log_block()));
+    assert_eq!(blocks, [(Some(2), None), (None, None)]);
+    assert_eq!(card.write(4, &[15; 512], None), Ok(steps(1, 0)));
+    assert_eq!(card.power_up(&mut table, None), Ok(steps(0, 0)));
+    assert_eq!(table[1].log_block(), Some(0));
 }
 
 #[test]
 fn format_erases_what_is_not_free() {
-    let (mut data, mut spare) = after_case_4();
-    assert_eq!(format(&mut data, &mut spare, SHAPE, 1), Err(Refusal::Cut(steps(0, 1))));
-    assert_eq!(format(&mut data, &mut spare, SHAPE, NO_CUT), Ok(steps(0, 1)));
-    assert_eq!((data, spare), blank(4));
+    let mut card = after_case_4();
+    assert_eq!(card.format(Some(1)), Err(Refusal::Cut(steps(0, 1))));
+    assert_eq!(card.format(None), Ok(steps(0, 1)));
+    assert_eq!(card, blank(4));
 }
 
 #[test]
 fn each_refusal_comes_back_as_itself() {
-    let (mut data, mut spare) = blank(4);
     let page = [7; 512];
-    let mut answer = |spare: &mut [u8], page: &[u8], shape: Shape, number: usize| {
-        write(&mut data, spare, page, shape, number, NO_CUT)
-    };
+    let mut card = blank(4);
     let outside = Shape { pages: 1, ..SHAPE };
-    assert_eq!(answer(&mut spare, &page, outside, 0), Err(Refusal::OutsideLimits));
-    assert_eq!(answer(&mut spare, &[7; 511], SHAPE, 8), Err(Refusal::WrongBuffer));
-    assert_eq!(answer(&mut spare, &[], SHAPE, 8), Err(Refusal::WrongBuffer));
-    assert_eq!(answer(&mut spare, &page, SHAPE, 8), Err(Refusal::OutOfRange));
+    assert_eq!(card.clone().with_shape(outside).write(0, &page, None), Err(Refusal::OutsideLimits));
+    assert_eq!(card.write(8, &page, None), Err(Refusal::OutOfRange));
     let large = Shape { logical: 1 << 63, ..SHAPE };
-    assert_eq!(answer(&mut spare, &page, large, 0), Err(Refusal::TooFewBlocks));
+    assert_eq!(card.clone().with_shape(large).write(0, &page, None), Err(Refusal::TooFewBlocks));
+    for entries in [0, 1, 3] {
+        let mut table = vec![TableEntry::default(); entries];
+        assert_eq!(card.power_up(&mut table, None), Err(Refusal::WrongBuffer));
+    }
 
-    spare[255] = 0;
-    assert_eq!(answer(&mut spare, &page, SHAPE, 0), Err(Refusal::IllFormed));
-    spare[240..].copy_from_slice(&[255; 16]);
-    spare[..8].copy_from_slice(&[1, 0, 0, 0, 15, 255, 0, 0]);
-    assert_eq!(answer(&mut spare, &page, SHAPE, 0), Err(Refusal::NeedsPowerUp));
-    spare[..8].copy_from_slice(&[254, 255, 255, 255, 240, 255, 0, 0]);
-    assert_eq!(answer(&mut spare, &page, SHAPE, 4), Err(Refusal::OutOfNumbers));
+    let with_spare = |spare: &[u8]| {
+        let (data, mut spares) = blank(4).into_parts();
+        spares[..spare.len()].copy_from_slice(spare);
+        Card::new(data, spares, SHAPE)
+    };
+    let mut ill_formed = with_spare(&[1, 0, 0, 0, 99]);
+    assert_eq!(ill_formed.write(0, &page, None), Err(Refusal::IllFormed));
+    let mut obsolete = with_spare(&[1, 0, 0, 0, 15, 255, 0, 0]);
+    assert_eq!(obsolete.write(0, &page, None), Err(Refusal::NeedsPowerUp));
+    let mut last = with_spare(&[254, 255, 255, 255, 240, 255, 0, 0]);
+    assert_eq!(last.write(4, &page, None), Err(Refusal::OutOfNumbers));
 }
 
 #[test]
-fn an_empty_image_and_an_empty_table_are_refused() {
-    assert_eq!(format(&mut [], &mut [], SHAPE, NO_CUT), Err(Refusal::OutsideLimits));
-    assert_eq!(lend(&[], &[], SHAPE, 0), None);
-    let (mut data, mut spare) = blank(4);
-    let answer = power_up(&mut data, &mut spare, &mut [], SHAPE, NO_CUT);
+fn the_raw_functions_take_buffers_of_any_length() {
+    let (mut data, mut spare) = blank(4).into_parts();
+    for page in [&[7; 511][..], &[]] {
+        let answer = raw::write(&mut data, &mut spare, page, SHAPE, 8, raw::NO_CUT);
+        assert_eq!(answer, Err(Refusal::WrongBuffer));
+    }
+    assert_eq!(raw::format(&mut [], &mut [], SHAPE, raw::NO_CUT), Err(Refusal::OutsideLimits));
+    assert_eq!(raw::lend(&[], &[], SHAPE, 0), None);
+    let answer = raw::power_up(&mut data, &mut spare, &mut [], SHAPE, raw::NO_CUT);
     assert_eq!(answer, Err(Refusal::WrongBuffer));
+    let mut table = [7; 4];
+    assert_eq!(raw::power_up(&mut data, &mut spare, &mut table, SHAPE, 0), Ok(steps(0, 0)));
+    assert_eq!(table, [raw::NO_BLOCK; 4]);
 }

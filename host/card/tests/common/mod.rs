@@ -129,6 +129,10 @@ impl AsRef<Path> for Folder {
 pub fn run(mut command: Command, input: &[u8]) -> Run {
     // A terminal's variables do not reach the tool: it writes to a pipe here.
     command.stdin(Stdio::piped()).stdout(Stdio::piped()).stderr(Stdio::piped());
+    // The shape is set only where a test sets it.
+    if !command.get_envs().any(|(name, _)| name == "CARD_SHAPE") {
+        command.env_remove("CARD_SHAPE");
+    }
     let mut child = command.spawn().expect("the tool runs");
     // The tool may refuse before it has read all.
     let _ = child.stdin.take().expect("an input").write_all(input);
@@ -145,6 +149,12 @@ impl Run {
     #[track_caller]
     pub fn expect_done(&self) -> &Run {
         assert_eq!((self.status, self.error.as_str()), (0, ""));
+        self
+    }
+
+    #[track_caller]
+    pub fn expect_status(&self, status: i32) -> &Run {
+        assert_eq!(self.status, status, "{}{}", self.text, self.error);
         self
     }
 
