@@ -5,6 +5,7 @@ ghost use Rattle.rules.specs.Promises.{given, FormatDone, PowerUpDone, ReadDone
 ghost use Rattle.hamutsigra.specs.Results.{packed, InBits, Result, LentFrom};
 use rules::answer::Answer;
 use rules::place::Place;
+use rules::shape::Shape;
 
 // An answer as one number.
 fn pack(a: Answer) -> u64
@@ -95,9 +96,10 @@ pub extern "C" fn hamutsigra_lend(
     ensures { λ r. ⌜ given pages logical logs (imageOf (now (bytes .entry)) (now (spare .entry)))
         (λ s im. LentFrom s im number r) ⌝ }
 {
+    let s = Shape::of(pages, logical, logs, bytes.len());
     let lent = card::lend_at(bytes, spare, pages, logical, logs, number);
     match lent {
-        Place::At(p) => (p * 512) as u64,
+        Place::At(p) => s.page_bytes(p) as u64,
         Place::Nowhere => u64::MAX,
     }
 }

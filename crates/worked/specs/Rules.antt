@@ -109,15 +109,24 @@ rules =
     ∷ row 1 (chip 2 4 (log 0 4294967292 0 ∷ [])) (write 2 512 1 0) 8 0 0 [] []
     ∷ row 2 (chip 2 5 (log 0 4294967293 0 ∷ [])) (write 2 512 1 9) 0 1 0 (p 2 ∷ []) []
     ∷ row 2 (chip 2 5 (log 0 top 0 ∷ [])) (write 2 512 1 0) 7 0 0 [] []
-    -- 6 comes before 7, 5 before 6, 4 before 5, 3 before 4, 2 before 3, 1 before 2
+    -- the order of a write's refusals: 6 before 7, 5 before 6, 4 before 5, 3 before 4, 1 before 2 (2 before 3 is in case 9); ..
     ∷ row 1 (chip 2 4 (base ++ (log 2 top 0 ∷ log 3 top 1 ∷ []))) (write 2 512 1 0) 6 0 0 [] []
     ∷ row 1 (chip 2 4 (base ++ (log 2 6 0 ∷ log 3 6 1 ∷ log 4 6 2 ∷ []))) (write 2 512 1 9) 5 0 0 [] (unlent 0 ∷ [])
     ∷ row 1 (chip 2 4 (log 0 1 0 ∷ log 2 2 2 ∷ spareIs 6 5 0 ∷ [])) (write 0 512 1 9) 4 0 0 [] (unlent 0 ∷ [])
     ∷ row 1 (chip 2 4 (spareIs 6 5 0 ∷ [])) (write 4 512 1 9) 3 0 0 [] []
-    ∷ row 1 (chip 2 4 (spareIs 6 5 0 ∷ [])) (powerUp 3 9) 2 0 0 [] (filled (7 ∷ 7 ∷ 7 ∷ []) ∷ [])
-    ∷ row 1 (chip 2 4 (spareIs 6 5 0 ∷ [])) (powerUp 4 9) 4 0 0 [] (filled (7 ∷ 7 ∷ 7 ∷ 7 ∷ []) ∷ [])
-    ∷ row 1 (chip 2 4 (spareIs 6 5 0 ∷ [])) (format 9) 4 0 0 [] (unchanged ∷ [])
     ∷ row 0 (chip 2 4 []) (write 4 511 1 9) 1 0 0 [] []
+    -- .. of a read's, 4 before 5, 3 before 4, 1 before 2; ..
+    ∷ row 1 (chip 2 4 (log 0 1 0 ∷ log 2 2 2 ∷ spareIs 6 5 0 ∷ [])) (read 0 512) 4 0 0 [] []
+    ∷ row 1 (chip 2 4 (spareIs 6 5 0 ∷ [])) (read 4 512) 3 0 0 [] []
+    ∷ row 0 (chip 2 4 []) (read 0 511) 1 0 0 [] []
+    -- .. of a power-up's, 5, 4 before 5, 2 before 4, 1 before 2; ..
+    ∷ row 1 (chip 2 4 (log 0 1 0 ∷ log 2 2 2 ∷ [])) (powerUp 4 9) 5 0 0 [] (filled (7 ∷ 7 ∷ 7 ∷ 7 ∷ []) ∷ [])
+    ∷ row 1 (chip 2 4 (log 0 1 0 ∷ log 2 2 2 ∷ spareIs 6 5 0 ∷ [])) (powerUp 4 9) 4 0 0 [] (filled (7 ∷ 7 ∷ 7 ∷ 7 ∷ []) ∷ [])
+    ∷ row 1 (chip 2 4 (spareIs 6 5 0 ∷ [])) (powerUp 3 9) 2 0 0 [] (filled (7 ∷ 7 ∷ 7 ∷ []) ∷ [])
+    ∷ row 0 (chip 2 4 []) (powerUp 3 9) 1 0 0 [] (filled (7 ∷ 7 ∷ 7 ∷ []) ∷ [])
+    -- .. of a format's, 4, 1 before 4
+    ∷ row 1 (chip 2 4 (spareIs 6 5 0 ∷ [])) (format 9) 4 0 0 [] (unchanged ∷ [])
+    ∷ row 0 (chip 2 4 (spareIs 4 5 0 ∷ spareIs 6 5 0 ∷ [])) (format 9) 1 0 0 [] (unchanged ∷ [])
     -- 1: P 2 to 32, B 3 to 64, L and K at least 1, whole blocks
     ∷ shaped 2 1 1 6 0
     ∷ shaped 1 1 1 6 1
