@@ -2,12 +2,11 @@
 use mathlib.Core.Path.{_≡_, sym, _∙_}
 use mathlib.Core.List.{List}
 use Prim.Native.Nat.{ℕ}
-use lib.ListN.{length}
 use Rattle.rules.specs.declared.shape.Shape.{Shape}
 use Rattle.rules.specs.declared.place.Place.{Place}
 use Rattle.rules.specs.declared.answer.Answer.{Answer}
 use Rattle.rules.specs.Page.{Image}
-use Rattle.rules.specs.Replies.{Reply, lentPage}
+use Rattle.rules.specs.Replies.{Reply}
 use Rattle.rules.specs.Promises.{Replied, FormatDone, PowerUpDone, ReadDone, WriteDone, LentAt, Lent}
 
 -- two that are both the definition's value are one

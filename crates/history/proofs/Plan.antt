@@ -12,7 +12,7 @@ use Rattle.rules.specs.declared.shape.Shape.{Shape}
 use Rattle.rules.specs.Page.{Image}
 use Rattle.rules.specs.WellFormed.{blocksOf}
 use Rattle.rules.specs.Steps.{Step, erase, stepDone, stepsDone, erases}
-use Rattle.laws.proofs.Tests.{cond-yes, cond-no, eq→eqb, ne→eqb}
+use Rattle.laws.proofs.Tests.{cond-no, ne→eqb}
 use Rattle.laws.proofs.Pages.{stepsDone-append}
 use Rattle.laws.proofs.Roles.{Recovered}
 use Rattle.laws.proofs.Change.{NoLive}
@@ -39,10 +39,6 @@ written-is a d m x = refl
 pub written-other : (a : ℕ) (d : List ℕ) (m : Memory) (x : ℕ) → x ≢ a → written a d m x ≡ m x
 unfolding written
 written-other a d m x n = cond-no (eqb x a) d (m x) (ne→eqb x a n)
-
-pub written-own : (a : ℕ) (d : List ℕ) (m : Memory) → written a d m a ≡ d
-unfolding written
-written-own a d m = cond-yes (eqb a a) d (m a) (eq→eqb a a refl)
 
 module _ (s : Shape) (im : Image) where
   -- what e erases are paid with, obsolete blocks counted as erased: at most k; or at most 2, and a full log block went; or nothing is said

@@ -1,5 +1,4 @@
 -- One name for all definitions: a claim that is computed says `unfolding computing`, and each of them unfolds there.
-use mathlib.Core.List.{List}
 use Rattle.rules.specs.Below.{allBelow, countBelow, highestBelow, firstBelow, lowestBelow, pickBelow, listBelow}
 use Rattle.rules.specs.Bytes.{all255, replaced}
 use Rattle.rules.specs.Shape.{withinLimits}

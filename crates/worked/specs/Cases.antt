@@ -2,7 +2,7 @@
 use mathlib.Core.List.{List, [], _∷_}
 use Prim.Native.Nat.{ℕ}
 use lib.ListN.{replicate}
-use Rattle.worked.specs.Rows.{Given, Start, left, chip, Call, format, powerUp, read, write, Did, p, e, Look, reads, bytes, spare, table, lent, unlent, lends, got, filled, unchanged, Row}
+use Rattle.worked.specs.Rows.{Start, left, chip, Call, format, powerUp, read, write, Did, p, e, Look, reads, bytes, spare, table, lent, unlent, lends, got, filled, unchanged, Row}
 
 -- P 4, L 2, K 1; B is 4. A cut number of 9 cuts nothing.
 abbrev row : Start → Call → ℕ → ℕ → ℕ → List Did → List Look → Row

@@ -11,7 +11,6 @@ use Rattle.rules.specs.Page.{Image, pageBytes, pageSpare}
 use Rattle.rules.specs.Steps.{Step, program, erase, stepDone}
 use Rattle.rules.specs.declared.place.Place.{Place}
 use Rattle.rules.specs.declared.place.Place.the-variants.{At, Nowhere}
-use Rattle.rules.specs.declared.answer.Answer.{Answer}
 use Rattle.rules.specs.Replies.{number, programsOf, erasesOf, shapeFor, Reply, imageLeft, formatReply, powerUpReply, writeReply, readReply, tableLeft, pageLeft, lentPage, lentBytes}
 
 -- P, L and K

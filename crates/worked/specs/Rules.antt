@@ -1,7 +1,7 @@
 -- What document 01's own cases leave unseen: each of W1 to W7 broken, each role, each refusal and their order.
 use mathlib.Core.List.{List, [], _∷_, _++_}
 use Prim.Native.Nat.{ℕ}
-use Rattle.worked.specs.Rows.{Given, Mark, entry, spareIs, dataIs, Start, left, chip, plain, Call, format, powerUp, read, write, Did, p, e, Look, reads, bytes, spare, table, lent, unlent, got, filled, unchanged, Row}
+use Rattle.worked.specs.Rows.{Mark, entry, spareIs, dataIs, Start, left, chip, plain, Call, format, powerUp, read, write, Did, p, e, Look, reads, bytes, spare, table, lent, unlent, filled, unchanged, Row}
 
 -- P 2, L 2; K 1 and B 4, or K 2 and B 5. Page p holds 512 bytes 100 + p where it is marked. A cut number of 9 cuts nothing.
 abbrev row : ℕ → Start → Call → ℕ → ℕ → ℕ → List Did → List Look → Row

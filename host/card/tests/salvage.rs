@@ -23,6 +23,13 @@ fn page(folder: &Folder, number: usize) -> Vec<u8> {
     folder.bytes("out")[number * 512..(number + 1) * 512].to_vec()
 }
 
+/// What salvage tells begins so.
+#[track_caller]
+fn salvage_tells(folder: &Folder, start: &str) {
+    let run = folder.on_card("salvage", "out");
+    assert!(run.expect_done().text.starts_with(start), "{}", run.text);
+}
+
 #[test]
 fn pages_of_sound_blocks_are_certain() {
     let folder = after_case_8();
@@ -63,16 +70,10 @@ fn a_broken_block_that_is_older_makes_nothing_doubtful() {
     // A copy of logical block 0 out of order (W4), with number 1.
     set_spare(&folder, 0, 0, &[1, 0, 0, 0, 15, 255, 1, 0]);
     assert_eq!(folder.on_card("check", "").status, 5);
-    let run = folder.on_card("salvage", "out");
-    assert!(
-        run.expect_done().text.starts_with("salvage: of 8 pages 8 are certain"),
-        "{}",
-        run.text
-    );
+    salvage_tells(&folder, "salvage: of 8 pages 8 are certain");
     // With number 9 it may be newer, for its own logical block.
     set_spare(&folder, 0, 0, &[9]);
-    let run = folder.on_card("salvage", "out");
-    assert!(run.expect_done().text.starts_with("salvage: of 8 pages 4 are certain, 4 doubtful"));
+    salvage_tells(&folder, "salvage: of 8 pages 4 are certain, 4 doubtful");
     assert_eq!((page(&folder, 0), page(&folder, 4)), (vec![255; 512], vec![20; 512]));
 }
 
@@ -82,21 +83,15 @@ fn blocks_of_one_number_and_two_live_log_blocks_are_doubtful() {
     // Two live log blocks of logical block 0, both with page 1.
     set_spare(&folder, 0, 0, &[7, 0, 0, 0, 240, 255, 1, 0]);
     set_spare(&folder, 12, 0, &[8, 0, 0, 0, 240, 255, 1, 0]);
-    let run = folder.on_card("salvage", "out");
     let expected = "salvage: of 8 pages 7 are certain, 1 doubtful, 0 unknown\n\
                     page 0           from block 2, data, number 4\n\
                     page 1           from block 3, log, number 8; block 0 may have a newer content\n";
-    assert!(run.expect_done().text.starts_with(expected), "{}", run.text);
+    salvage_tells(&folder, expected);
     // The same number in two logical blocks: each is certain of its own.
     set_spare(&folder, 0, 0, &[6, 0, 0, 0, 240, 255, 1, 0]);
     set_spare(&folder, 12, 0, &[255; 8]);
     assert_eq!(folder.on_card("check", "").status, 5);
-    let run = folder.on_card("salvage", "out");
-    assert!(
-        run.expect_done().text.starts_with("salvage: of 8 pages 8 are certain"),
-        "{}",
-        run.text
-    );
+    salvage_tells(&folder, "salvage: of 8 pages 8 are certain");
 }
 
 #[test]

@@ -1,13 +1,11 @@
-use mathlib.Core.Path.{ap, subst, sym, _∙_}
+use mathlib.Core.Path.{ap, _∙_}
 use mathlib.Core.Logic.{inl}
 use Prim.Native.Nat.{_≤_, _<_, _-_}
 use native.Mathlib.Omega.{arith}
 use borrow.Author.Needs.{needs}
-use Rattle.rules.specs.declared.block.State.{State}
 use Rattle.rules.specs.declared.block.Block.{Block}
 use Rattle.rules.specs.Facts.{imageOf}
 use Rattle.rules.specs.WellFormed.{notUsed}
-use Rattle.words.specs.Words.{Kinded}
 use Rattle.blocks.specs.Scanned.{useAt}
 use Rattle.blocks.proofs.Image.{ScannedTo, scanned-none, scanned-more, uses-all}
 use Rattle.blocks.proofs.scan.scan_use.Statement.{statement}
