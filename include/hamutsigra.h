@@ -4,10 +4,10 @@
  * A raw NAND chip is lent as two images, its data bytes and its spare bytes, and
  * becomes L x P numbered pages of 512 bytes that survive a card pulled out between
  * any two steps: a page programmed, a block erased. What a chip does when power
- * fails inside a step is not covered. The rules are those of document 01; "8",
- * "power-up" or "live" in the comments here mean what they mean there. The functions
- * are total: any shape, any length and any bytes have an answer. They are proved for
- * a size_t of 64 bits.
+ * fails inside a step is not covered. The rules are those of document 01, and of
+ * document 02, request (i), for the block write; "8", "power-up" or "live" in the
+ * comments here mean what they mean there. The functions are total: any shape, any
+ * length and any bytes have an answer. They are proved for a size_t of 64 bits.
  *
  * In short:
  *
@@ -29,11 +29,13 @@
  *   data, data_len     the data image: B x P x 512 bytes, pages end to end
  *   spare, spare_len   the spare image: B x P x 16 bytes, for the same B
  *   page, page_len     the bytes of a logical page: 512
+ *   block, block_len   the bytes of a logical block: P x 512, pages end to end
  *   table, table_len   the table of power-up: 2 x L, counted in numbers, not bytes
  *   pages              P, the pages of a block: 2 to 32
  *   logical            L, the logical blocks: at least 1
  *   logs               K, the log blocks at most: at least 1
- *   number             the logical page: 0 to L x P - 1
+ *   number             the logical page: 0 to L x P - 1; for a block write the
+ *                      logical block: 0 to L - 1
  *   cut                the steps after which the card is pulled out;
  *                      HAMUTSIGRA_NO_CUT for never
  *
@@ -45,8 +47,8 @@
  *   - A part must be what its length says: a pointer to at least that many bytes
  *     (for the table: numbers), not null, even where the length is 0. Bytes may
  *     start anywhere; the table is aligned as a uint16_t is.
- *   - The parts lent to one call must not overlap. A page of the image is copied
- *     before it is given to hamutsigra_write.
+ *   - The parts lent to one call must not overlap. A page or a block of the image is
+ *     copied before it is given to hamutsigra_write or hamutsigra_block_write.
  *   - It is lent for the call alone: nothing is kept after it, and nothing but what
  *     is lent is touched.
  *
@@ -108,9 +110,9 @@ enum hamutsigra_answer {
     HAMUTSIGRA_DONE = 0,
     /* Shape or image length outside the limits. */
     HAMUTSIGRA_OUTSIDE_LIMITS = 1,
-    /* Page buffer not 512 long, table not 2 x L. */
+    /* Page buffer not 512 long, block buffer not P x 512, table not 2 x L. */
     HAMUTSIGRA_WRONG_BUFFER = 2,
-    /* Logical page out of range. */
+    /* Logical page or logical block out of range. */
     HAMUTSIGRA_OUT_OF_RANGE = 3,
     /* Fewer good blocks than L + K + 1. */
     HAMUTSIGRA_TOO_FEW_BLOCKS = 4,
@@ -172,6 +174,19 @@ uint64_t hamutsigra_write(uint8_t *data, size_t data_len,
                           const uint8_t *page, size_t page_len,
                           size_t pages, size_t logical, size_t logs,
                           size_t number, size_t cut);
+
+/*
+ * Makes the P x 512 bytes of block the content of a logical block, all or none, with
+ * P programs and 2 erases at most: page o of the block gets the o-th 512 bytes.
+ * Answers 0 to 8; after 6 and 8 run power-up. The content is the old one until the
+ * last program and the new one from there: a cut block write has happened exactly if
+ * the programs of its result are P.
+ */
+uint64_t hamutsigra_block_write(uint8_t *data, size_t data_len,
+                                uint8_t *spare, size_t spare_len,
+                                const uint8_t *block, size_t block_len,
+                                size_t pages, size_t logical, size_t logs,
+                                size_t number, size_t cut);
 
 /*
  * Says where the content of a logical page lies: the byte of data at which its

@@ -4,8 +4,9 @@
  * The firmware keeps a copy of the chip in memory. What a command does is fixed by
  * the image and the call, so the same write on the same image, cut at 1, 2, 3, ..,
  * does one step more each time: what two of these images differ in is the next step,
- * to be done on the chip. Returns 0 if the chip ends as a card written directly does
- * and no page was programmed that was not erased, else says what differs and returns 1.
+ * to be done on the chip. Pages are written so, and now and then a whole block.
+ * Returns 0 if the chip ends as a card written directly does and no page was
+ * programmed that was not erased, else says what differs and returns 1.
  */
 #include "hamutsigra.h"
 
@@ -78,8 +79,21 @@ static uint64_t write_page(struct card *card, size_t number, uint8_t fill, size_
                             page, sizeof page, PAGES, LOGICAL, LOGS, number, cut);
 }
 
+static uint64_t write_block(struct card *card, size_t number, uint8_t fill, size_t cut)
+{
+    uint8_t block[PAGES * DATA];
+
+    memset(block, fill, sizeof block);
+    return hamutsigra_block_write(card->data, sizeof card->data, card->spare, sizeof card->spare,
+                                  block, sizeof block, PAGES, LOGICAL, LOGS, number, cut);
+}
+
+/* A write of a page or of a block. */
+typedef uint64_t write_command(struct card *card, size_t number, uint8_t fill, size_t cut);
+
 /* A write, step by step: *copy is the chip's image before it and after each step. */
-static uint64_t write_through(struct card *copy, size_t number, uint8_t fill)
+static uint64_t write_through(struct card *copy, write_command *command, size_t number,
+                              uint8_t fill)
 {
     static struct card start, next;
     uint32_t erases = 0;
@@ -89,7 +103,7 @@ static uint64_t write_through(struct card *copy, size_t number, uint8_t fill)
     start = *copy;
     for (steps = 1;; steps++) {
         next = start;
-        result = write_page(&next, number, fill, steps);
+        result = command(&next, number, fill, steps);
         pass_on(copy, &next, hamutsigra_erases_of(result) > erases);
         erases = hamutsigra_erases_of(result);
         *copy = next;
@@ -106,11 +120,15 @@ int main(void)
     memset(&chip, 255, sizeof chip);
     copy = direct = chip;
     for (i = 0; i < 200; i++) {
-        size_t number = i * 5 % (LOGICAL * PAGES);
+        int is_block = i % 7 == 6;
+        write_command *command = is_block ? write_block : write_page;
+        size_t number = i * 5 % (is_block ? LOGICAL : LOGICAL * PAGES);
         uint8_t fill = (uint8_t)(i % 255);
+        uint64_t result = write_through(&copy, command, number, fill);
 
-        if (write_through(&copy, number, fill) !=
-            write_page(&direct, number, fill, HAMUTSIGRA_NO_CUT))
+        if (hamutsigra_answer_of(result) != HAMUTSIGRA_DONE)
+            surprise("not done: write", i);
+        if (result != command(&direct, number, fill, HAMUTSIGRA_NO_CUT))
             surprise("another result: write", i);
         if (memcmp(&chip, &direct, sizeof chip) != 0)
             surprise("another chip: write", i);

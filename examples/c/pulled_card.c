@@ -3,8 +3,9 @@
  *
  * Formats a small card, fills a log block, pulls the card out at every step of
  * the write that merges it, powers up and reads: the page is the old one or the
- * new one, and all others are as they were. Returns 0 if every answer was the
- * expected one, else says which was not and returns 1.
+ * new one, and all others are as they were. Then loads a whole block, pulls the card
+ * out at every step of that, and finds all its pages old or all new. Returns 0 if
+ * every answer was the expected one, else says which was not and returns 1.
  */
 #include "hamutsigra.h"
 
@@ -51,6 +52,18 @@ static uint64_t write_page(struct card *card, size_t number, uint8_t fill, size_
                             page, sizeof page, PAGES, LOGICAL, LOGS, number, cut);
 }
 
+/* Loads a block: every byte of its first page is fill, of the next one fill + 1, .. */
+static uint64_t load_block(struct card *card, size_t number, uint8_t fill, size_t cut)
+{
+    uint8_t block[PAGES * HAMUTSIGRA_DATA_BYTES];
+    size_t page;
+
+    for (page = 0; page < PAGES; page++)
+        memset(block + page * HAMUTSIGRA_DATA_BYTES, (int)(fill + page), HAMUTSIGRA_DATA_BYTES);
+    return hamutsigra_block_write(card->data, sizeof card->data, card->spare, sizeof card->spare,
+                                  block, sizeof block, PAGES, LOGICAL, LOGS, number, cut);
+}
+
 static uint64_t power_up(struct card *card, uint16_t *table)
 {
     return hamutsigra_power_up(card->data, sizeof card->data, card->spare, sizeof card->spare,
@@ -79,6 +92,15 @@ static void expect_content(const struct card *card, size_t number, uint8_t fill)
     else
         expect_equal("page lent equals page read",
                      (unsigned long)memcmp(card->data + lent, page, sizeof page), 0);
+}
+
+/* Expects the pages of block 0, filled as load_block fills them. */
+static void expect_block(const struct card *card, uint8_t fill)
+{
+    size_t page;
+
+    for (page = 0; page < PAGES; page++)
+        expect_content(card, page, (uint8_t)(fill + page));
 }
 
 /* Formats a used card and fills its one log block with pages 1, 0, 1 and 2. */
@@ -123,18 +145,54 @@ static void pull_out_after(size_t steps)
     expect_content(&card, 3, 255);
 }
 
+/* The same card with page 3 written: block 0 has a data block and a log block. */
+static void prepare_block(struct card *card)
+{
+    prepare(card);
+    expect("write 3", write_page(card, 3, 14, 6), HAMUTSIGRA_DONE, 5, 1);
+}
+
+/*
+ * The load of block 0 has six steps: four programs, the erase of the log block, the
+ * erase of the data block. It has happened exactly if the four programs are done.
+ */
+static void pull_out_of_load_after(size_t steps)
+{
+    static struct card card;
+    uint16_t table[2 * LOGICAL];
+    uint32_t programs = steps < 4 ? (uint32_t)steps : 4;
+    uint32_t erases = (uint32_t)steps - programs;
+    uint64_t result;
+    int happened;
+
+    prepare_block(&card);
+    result = load_block(&card, 0, 21, steps);
+    expect("cut load", result, HAMUTSIGRA_CUT, programs, erases);
+    happened = hamutsigra_programs_of(result) == PAGES;
+    expect_block(&card, happened ? 21 : 11);
+
+    /* A half-made block goes, and so does what is left of the one replaced. */
+    expect("power-up", power_up(&card, table), HAMUTSIGRA_DONE, 0,
+           happened ? 2 - erases : steps > 0);
+    expect_block(&card, happened ? 21 : 11);
+}
+
 int main(void)
 {
     static struct card card;
     size_t steps;
 
-    for (steps = 0; steps < 6; steps++)
+    for (steps = 0; steps < 6; steps++) {
         pull_out_after(steps);
+        pull_out_of_load_after(steps);
+    }
 
-    prepare(&card);
-    expect("write 3", write_page(&card, 3, 14, 6), HAMUTSIGRA_DONE, 5, 1);
+    prepare_block(&card);
     expect_content(&card, 3, 14);
     expect("write 8", write_page(&card, 8, 15, HAMUTSIGRA_NO_CUT), HAMUTSIGRA_OUT_OF_RANGE, 0, 0);
+    expect("load 0", load_block(&card, 0, 21, 6), HAMUTSIGRA_DONE, 4, 2);
+    expect_block(&card, 21);
+    expect("load 2", load_block(&card, 2, 31, HAMUTSIGRA_NO_CUT), HAMUTSIGRA_OUT_OF_RANGE, 0, 0);
 
     if (surprises == 0)
         puts("pulled card: every answer was the expected one");

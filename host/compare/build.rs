@@ -1,6 +1,7 @@
-//! Plants faults: makes five copies of the second program, each with one sentence
-//! put wrong. They are the five mistakes that document 01 names, and are there to
-//! show that the comparison finds them. The second program itself stays as it is.
+//! Plants faults: makes six copies of the second program, each with one sentence
+//! put wrong. They are the five mistakes that document 01 names, and one that only a
+//! block write can show; they are there to show that the comparison finds them. The
+//! second program itself stays as it is.
 
 use std::env;
 use std::fmt::Write;
@@ -18,7 +19,7 @@ struct Fault {
     wrong: &'static str,
 }
 
-const FAULTS: [Fault; 5] = [
+const FAULTS: [Fault; 6] = [
     // "Taking the first copy in a log block for the newest."
     Fault {
         name: "first_copy",
@@ -26,26 +27,20 @@ const FAULTS: [Fault; 5] = [
         right: "rposition(|copy| *copy == offset)",
         wrong: "position(|copy| *copy == offset)",
     },
-    // "Erasing the old data block before the last copied page is there."
+    // "Erasing the old data block before the last copied page is there." In a merge.
     Fault {
         name: "early_erase",
         file: "plan.rs",
         right: "
-        for page in 0..pages {
-            let a = l * pages + page;
-            self.program(block, page, spare(number, Kind::Copy, a), self.content(a));
-        }
+        self.copy(l, content);
         self.erase(log.block);
         self.erase_data_block(l);
 ",
         wrong: "
-        for page in 0..pages {
-            if page == pages - 1 {
-                self.erase_data_block(l);
-            }
-            let a = l * pages + page;
-            self.program(block, page, spare(number, Kind::Copy, a), self.content(a));
-        }
+        self.copy(l, content);
+        let last_page = self.steps.pop();
+        self.erase_data_block(l);
+        self.steps.extend(last_page);
         self.erase(log.block);
 ",
     },
@@ -69,6 +64,21 @@ const FAULTS: [Fault; 5] = [
         file: "block.rs",
         right: "self.offsets.iter().copied().eq(0..pages)",
         wrong: "self.offsets.len() == pages",
+    },
+    // Leaving, in a block write, the old data block where there is no log block.
+    Fault {
+        name: "data_left",
+        file: "plan.rs",
+        right: "
+        plan.erase(log.block);
+    }
+    plan.erase_data_block(l);
+",
+        wrong: "
+        plan.erase(log.block);
+        plan.erase_data_block(l);
+    }
+",
     },
 ];
 

@@ -7,7 +7,7 @@ use Rattle.rules.specs.declared.place.Place.{Place}
 use Rattle.rules.specs.declared.answer.Answer.{Answer}
 use Rattle.rules.specs.Page.{Image}
 use Rattle.rules.specs.Replies.{Reply}
-use Rattle.rules.specs.Promises.{Replied, FormatDone, PowerUpDone, ReadDone, WriteDone, LentAt, Lent}
+use Rattle.rules.specs.Promises.{Replied, FormatDone, PowerUpDone, ReadDone, WriteDone, BlockWriteDone, LentAt, Lent}
 
 -- two that are both the definition's value are one
 one : {A : Type 0} {x y v : A} → x ≡ v → y ≡ v → x ≡ y
@@ -36,6 +36,11 @@ module _ (s : Shape) (im : Image) where
   pub write-one : (a : ℕ) (page : List ℕ) (cut : ℕ) {r r′ : Answer} {bytes bytes′ spare spare′ : List ℕ} → WriteDone s im a page cut r bytes spare
       → WriteDone s im a page cut r′ bytes′ spare′ → (r ≡ r′) × (bytes ≡ bytes′) × (spare ≡ spare′)
   write-one a page cut h k = replied-one _ h k
+
+  pub blockWrite-one : (l : ℕ) (block : List ℕ) (cut : ℕ) {r r′ : Answer} {bytes bytes′ spare spare′ : List ℕ}
+      → BlockWriteDone s im l block cut r bytes spare
+      → BlockWriteDone s im l block cut r′ bytes′ spare′ → (r ≡ r′) × (bytes ≡ bytes′) × (spare ≡ spare′)
+  blockWrite-one l block cut h k = replied-one _ h k
 
   pub lend-one : (a : ℕ) {part part′ : List ℕ} → Lent s im a part → Lent s im a part′ → part ≡ part′
   lend-one a h k = one (h .bytes-lent) (k .bytes-lent)

@@ -15,12 +15,12 @@ use Rattle.rules.specs.Shape.{blockOf}
 use Rattle.rules.specs.Page.{Image}
 use Rattle.rules.specs.Facts.{imageOf}
 use Rattle.rules.specs.WellFormed.{Blocks, blocksOf}
-use Rattle.rules.specs.Steps.{Step, stepDone, stepsDone, erases, entryStep, writeCase, mergeFirst, writeList}
+use Rattle.rules.specs.Steps.{Step, stepDone, stepsDone, erases, entryStep, writeCase, mergeFirst, writeList, blockWriteList}
 use Rattle.rules.specs.Replies.{Reply, number, erasesOf, shapeFor, imageLeft, formatReply, pageLeft}
-use Rattle.rules.specs.Promises.{FormatDone, PowerUpDone, ReadDone, WriteDone}
+use Rattle.rules.specs.Promises.{FormatDone, PowerUpDone, ReadDone, WriteDone, BlockWriteDone}
 use Rattle.rules.specs.Computing.{computing}
 use Rattle.laws.proofs.Tests.{and-l, and-r}
-use Rattle.history.specs.History.{Command, read, write, powerUp, replyTo, Tells}
+use Rattle.history.specs.History.{Command, read, write, blockWrite, powerUp, replyTo, Tells}
 use Rattle.history.proofs.Demands.{counts-are-of-the-steps}
 
 -- ---- what a layer leaves, and whether that meets the promise
@@ -41,6 +41,7 @@ Meets s im (format cut) o = (bytes : List ℕ) × FormatDone s im cut (o .answer
 Meets s im (after (powerUp old cut)) o = (bytes : List ℕ) × ((table : List ℕ) × PowerUpDone s im old cut (o .answer) bytes (o .left) table)
 Meets s im (after (read a old)) o = ReadDone s im old a (o .answer) (o .left)
 Meets s im (after (write a page cut)) o = (bytes : List ℕ) × WriteDone s im a page cut (o .answer) bytes (o .left)
+Meets s im (after (blockWrite l block cut)) o = (bytes : List ℕ) × BlockWriteDone s im l block cut (o .answer) bytes (o .left)
 
 abbrev reply : Shape → Image → Input → Reply
 reply s im (format cut) = formatReply s im cut
@@ -51,6 +52,7 @@ looked s im (format cut) = imageLeft s im (reply s im (format cut)) .spare
 looked s im (after (powerUp old cut)) = imageLeft s im (reply s im (after (powerUp old cut))) .spare
 looked s im (after (read a old)) = pageLeft s im old a
 looked s im (after (write a page cut)) = imageLeft s im (reply s im (after (write a page cut))) .spare
+looked s im (after (blockWrite l block cut)) = imageLeft s im (reply s im (after (blockWrite l block cut))) .spare
 
 abbrev due : Shape → Image → Input → Out
 due s im x = record { answer = reply s im x .answer; left = looked s im x }
@@ -63,6 +65,7 @@ meets-due s im (format cut) o h = same-out (h .1 .answer) (h .1 .spare-left)
 meets-due s im (after (powerUp old cut)) o h = same-out (h .1 .1 .replied .answer) (h .1 .1 .replied .spare-left)
 meets-due s im (after (read a old)) o h = same-out (h .answer) (h .page-left)
 meets-due s im (after (write a page cut)) o h = same-out (h .1 .answer) (h .1 .spare-left)
+meets-due s im (after (blockWrite l block cut)) o h = same-out (h .1 .answer) (h .1 .spare-left)
 
 -- ---- what useless layers do
 
@@ -85,13 +88,24 @@ doesNothing s im o = sameBytes (o .left) (im .spare)
 abbrev sevens : List ℕ
 sevens = replicate 512 7
 
--- of the steps of a write of page 0 none is done, or all of its merge at least
+-- two pages
+abbrev fourteens : List ℕ
+fourteens = replicate 1024 14
+
+-- of these steps none is done, or the first k at least
+abbrev inOneGo : List Step → ℕ → Deed
+inOneGo steps k s im o =
+    not (allBelow (suc (length steps)) (λ n. (ltb 0 n && ltb n k) || not (sameBytes (o .left) (stepsDone s (take n steps) im .spare))))
+
+-- the merge of a write of page 0
 abbrev mergesWhole : Deed
-mergesWhole s im o =
+mergesWhole s im =
     let c : Blocks = blocksOf s im in
-    let steps : List Step = writeList s im c 0 sevens in
-    let merge : ℕ = length (mergeFirst s im c (writeCase s c (blockOf s 0))) in
-    not (allBelow (suc (length steps)) (λ n. (ltb 0 n && ltb n merge) || not (sameBytes (o .left) (stepsDone s (take n steps) im .spare))))
+    inOneGo (writeList s im c 0 sevens) (length (mergeFirst s im c (writeCase s c (blockOf s 0)))) s im
+
+-- the P programs of a block write of logical block 0
+abbrev loadsWhole : Deed
+loadsWhole s im = inOneGo (blockWriteList s (blocksOf s im) 0 fourteens) (s .pages) s im
 
 -- ---- the table, on cards of P 2, L 1, K 1, B 3
 
@@ -128,11 +142,14 @@ layers =
     ∷ layer refuses blank (after (powerUp (0 ∷ 0 ∷ []) 9))
     ∷ layer refuses blank (after (read 0 sevens))
     ∷ layer refuses blank (after (write 0 sevens 9))
+    ∷ layer refuses blank (after (blockWrite 0 fourteens 9))
     ∷ layer reads255 logged (after (read 0 (replicate 512 0)))
     ∷ layer doesNothing logged (format 9)
     ∷ layer doesNothing halfCopied (after (powerUp (0 ∷ 0 ∷ []) 9))
     ∷ layer doesNothing blank (after (write 0 sevens 9))
+    ∷ layer doesNothing blank (after (blockWrite 0 fourteens 9))
     ∷ layer mergesWhole fullLog (after (write 0 sevens 1))
+    ∷ layer loadsWhole logged (after (blockWrite 0 fourteens 1))
     ∷ []
 
 -- ---- none of them meets the promises

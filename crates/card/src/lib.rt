@@ -1,6 +1,6 @@
-// The card: format, power-up, read, write and page lending, over a lent image. Each takes any slices and any numbers.
+// The card: format, power-up, read, write, block write and page lending, over a lent image. Each takes any slices and any numbers.
 ghost use Rattle.rules.specs.Facts.{imageOf};
-ghost use Rattle.rules.specs.Promises.{given, FormatDone, PowerUpDone, ReadDone, WriteDone, LentAt, Lent};
+ghost use Rattle.rules.specs.Promises.{given, FormatDone, PowerUpDone, ReadDone, WriteDone, BlockWriteDone, LentAt, Lent};
 use rules::answer::Answer;
 use rules::place::Place;
 use rules::shape::Shape;
@@ -71,6 +71,24 @@ pub fn write(
 {
     let s = Shape::of(pages, logical, logs, bytes.len());
     writing::write(bytes, spare, page, s, number, cut)
+}
+
+// Writes the block buffer to logical block `number`, all or none: its P parts are the pages.
+pub fn block_write(
+    bytes: &mut [u8],
+    spare: &mut [u8],
+    block: &[u8],
+    pages: usize,
+    logical: usize,
+    logs: usize,
+    number: usize,
+    cut: usize,
+) -> Answer
+    ensures { λ r. ⌜ given pages logical logs (imageOf (now (bytes .entry)) (now (spare .entry)))
+        (λ s im. BlockWriteDone s im number (now (block .entry)) cut r (now (bytes .exit)) (now (spare .exit))) ⌝ }
+{
+    let s = Shape::of(pages, logical, logs, bytes.len());
+    writing::block_write(bytes, spare, block, s, number, cut)
 }
 
 // The flash page that `lend` lends, or Nowhere.

@@ -5,7 +5,7 @@ use mathlib.Core.List.{List, [], _∷_, _++_, map, map-append}
 use Prim.Native.Nat.{ℕ, _+_, _<_, _≤_}
 use native.Mathlib.Omega.{arith}
 use lib.Dec.{eqb}
-use lib.ListN.{take}
+use lib.ListN.{length, take}
 use borrow.Author.Tests.{eq-eqb, ne-eqb}
 use Rattle.rules.specs.declared.shape.Shape.{Shape}
 use Rattle.rules.specs.Below.{none, ifAny}
@@ -14,50 +14,65 @@ use Rattle.rules.specs.Shape.{pageNo, logicalPage}
 use Rattle.rules.specs.Page.{Image}
 use Rattle.rules.specs.Facts.{Within, imageOf}
 use Rattle.rules.specs.WellFormed.{Blocks}
-use Rattle.rules.specs.Steps.{Step, erase, stepsDone, entryStep, copyStep, contents}
+use Rattle.rules.specs.Content.{content}
+use Rattle.rules.specs.Steps.{Step, erase, stepsDone, entryStep, partOf}
 use Rattle.laws.proofs.Below.{listBelow-some, listBelow-more}
 use Rattle.steps.specs.declared.budget.Budget.{Budget}
 use Rattle.steps.specs.Runs.{progress, Ran, eraseIf}
 use Rattle.steps.proofs.Running.{ran-same, ran-then, run-image}
 use Rattle.plans.specs.declared.plan.Plan.{Plan}
-use Rattle.carry.specs.Carrying.{copiesTo, mergeSteps, firstSteps, planned, Kept}
+use Rattle.plans.specs.declared.renewal.Renewal.{Renewal}
+use Rattle.carry.specs.Carrying.{pageFor, pagesFor, copyTo, copiesTo, renewalSteps, Kept, firstSteps, planned}
 
 pub within-kept : {s : Shape} {b b′ t t′ : ℕ} → Within s b t → b′ ≡ b → t′ ≡ t → Within s b′ t′
 within-kept w e f = rw (e, f) w
 
--- ---- the pages of a copy
+module _ (s : Shape) (im : Image) (c : Blocks) where
+  -- ---- what a page gets
 
-pub page-ran : (s : Shape) (im : Image) (c : Blocks) (l f n o : ℕ) {x : ℕ} {d bytes spare : List ℕ} {t r : Budget} → x ≡ pageNo s f o
-    → d ≡ contents s im c l o
-    → Ran s (entryStep x n copyKind (logicalPage s l o) d ∷ []) (progress im t) bytes spare r
-    → Ran s (copyStep s f n l (contents s im c l) o ∷ []) (progress im t) bytes spare r
-page-ran s im c l f n o e g h = rw (← e, ← g) h
+  pub page-content : (d : List ℕ) (a o : ℕ) → length d ≡ 0 → content s im c a ≡ pageFor s im c d a o
+  page-content d a o e = rw (eq-eqb (length d) 0 e)
 
--- One turn of the loop: the page is read from the image of that moment.
-pub copies-turn : (s : Shape) (im : Image) (c : Blocks) (l f n o : ℕ) {t u r : Budget} {bytes spare bytes′ spare′ : List ℕ} → o < s .pages
-    → Kept s im c l f n
-    → Ran s (copiesTo s im c l f n o) (progress im t) bytes spare u
-    → Ran s (copyStep s f n l (contents s (imageOf bytes spare) c l) o ∷ []) (progress (imageOf bytes spare) u) bytes′ spare′ r
-    → Ran s (copiesTo s im c l f n (o + 1)) (progress im t) bytes′ spare′ r
-copies-turn s im c l f n o {t} {u} {r} {bytes} {spare} h k past now =
-    ran-same list (ran-then past now)
-  where
-    page : List ℕ → Step
-    page d = entryStep (pageNo s f o) n copyKind (logicalPage s l o) d
+  pub page-part : (d : List ℕ) (a o : ℕ) → (length d ≡ 0 → ⊥) → partOf d o ≡ pageFor s im c d a o
+  page-part d a o n = rw (ne-eqb (length d) 0 n)
 
-    moment : (m : ℕ) × (m ≤ o) × (take (t .left) (copiesTo s im c l f n o) ≡ copiesTo s im c l f n m)
-    moment = listBelow-some o (t .left) (copyStep s f n l (contents s im c l))
+  -- ---- the pages
 
-    image : imageOf bytes spare ≡ stepsDone s (copiesTo s im c l f n (moment .0)) im
-    image = run-image s (copiesTo s im c l f n o) im past ∙ ap (λ (xs : List Step). stepsDone s xs im) (moment .2)
+  module _ (x : Renewal) (d : List ℕ) where
+    pub page-ran : (o : ℕ) {p : ℕ} {page bytes spare : List ℕ} {t r : Budget} → p ≡ pageNo s (x .into) o → page ≡ pagesFor s im c (x .logical) d o
+        → Ran s (entryStep p (x .highest + 1) copyKind (logicalPage s (x .logical) o) page ∷ []) (progress im t) bytes spare r
+        → Ran s (copyTo s im c x d o ∷ []) (progress im t) bytes spare r
+    page-ran o e g h = rw (← e, ← g) h
 
-    same : contents s (imageOf bytes spare) c l o ≡ contents s im c l o
-    same = ap (λ (i : Image). contents s i c l o) image ∙ k .content-kept (moment .0) o (omega (arith, moment .1))
+    -- One turn of the loop: the page is filled from the image of that moment.
+    pub copies-turn : (o : ℕ) {t u r : Budget} {bytes spare bytes′ spare′ : List ℕ} → o < s .pages → Kept s im c x d
+        → Ran s (copiesTo s im c x d o) (progress im t) bytes spare u
+        → Ran s (copyTo s (imageOf bytes spare) c x d o ∷ []) (progress (imageOf bytes spare) u) bytes′ spare′ r
+        → Ran s (copiesTo s im c x d (o + 1)) (progress im t) bytes′ spare′ r
+    copies-turn o {t} {u} {r} {bytes} {spare} h k past now = ran-same list (ran-then past now)
+      where
+        page : List ℕ → Step
+        page v = entryStep (pageNo s (x .into) o) (x .highest + 1) copyKind (logicalPage s (x .logical) o) v
 
-    list : copiesTo s im c l f n o ++ (page (contents s (imageOf bytes spare) c l o) ∷ []) ≡ copiesTo s im c l f n (o + 1)
-    list = ap (λ (d : List ℕ). copiesTo s im c l f n o ++ (page d ∷ [])) same ∙ listBelow-more o (copyStep s f n l (contents s im c l))
+        moment : (m : ℕ) × (m ≤ o) × (take (t .left) (copiesTo s im c x d o) ≡ copiesTo s im c x d m)
+        moment = listBelow-some o (t .left) (copyTo s im c x d)
 
--- ---- erases
+        image : imageOf bytes spare ≡ stepsDone s (copiesTo s im c x d (moment .0)) im
+        image = run-image s (copiesTo s im c x d o) im past ∙ ap (λ (xs : List Step). stepsDone s xs im) (moment .2)
+
+        same : pagesFor s (imageOf bytes spare) c (x .logical) d o ≡ pagesFor s im c (x .logical) d o
+        same = ap (λ (i : Image). pagesFor s i c (x .logical) d o) image ∙ k .page-kept (moment .0) o (omega (arith, moment .1))
+
+        list : copiesTo s im c x d o ++ (page (pagesFor s (imageOf bytes spare) c (x .logical) d o) ∷ []) ≡ copiesTo s im c x d (o + 1)
+        list = ap (λ (v : List ℕ). copiesTo s im c x d o ++ (page v ∷ [])) same ∙ listBelow-more o (copyTo s im c x d)
+
+    -- ---- then the erases
+
+    pub renew-ran : {b₁ s₁ b₂ s₂ b₃ s₃ : List ℕ} {t t₁ t₂ t₃ : Budget} → Ran s (copiesTo s im c x d (s .pages)) (progress im t) b₁ s₁ t₁
+        → Ran s (map erase (ifAny (x .log))) (progress (imageOf b₁ s₁) t₁) b₂ s₂ t₂
+        → Ran s (map erase (ifAny (x .«data»))) (progress (imageOf b₂ s₂) t₂) b₃ s₃ t₃ → Ran s (renewalSteps s im c x d) (progress im t) b₃ s₃ t₃
+    unfolding renewalSteps
+    renew-ran f g h = ran-then f (ran-same (sym (map-append erase (ifAny (x .log)) (ifAny (x .«data»)))) (ran-then g h))
 
 pub eraseIf-found : (b : ℕ) → eraseIf (not (eqb b none)) b ≡ map erase (ifAny b)
 eraseIf-found b = go (eqb b none)
@@ -69,18 +84,11 @@ eraseIf-found b = go (eqb b none)
 -- ---- the whole plan
 
 module _ (s : Shape) (im : Image) (c : Blocks) (p : Plan) where
-  pub merge-ran : {b₁ s₁ b₂ s₂ b₃ s₃ : List ℕ} {t t₁ t₂ t₃ : Budget}
-      → Ran s (copiesTo s im c (p .merged) (p .into) (p .number + 1) (s .pages)) (progress im t) b₁ s₁ t₁
-      → Ran s (map erase (ifAny (p .log))) (progress (imageOf b₁ s₁) t₁) b₂ s₂ t₂
-      → Ran s (map erase (ifAny (p .«data»))) (progress (imageOf b₂ s₂) t₂) b₃ s₃ t₃ → Ran s (mergeSteps s im c p) (progress im t) b₃ s₃ t₃
-  unfolding mergeSteps
-  merge-ran f g h = ran-then f (ran-same (sym (map-append erase (ifAny (p .log)) (ifAny (p .«data»)))) (ran-then g h))
-
   pub firstSteps-none : (p .needed ≡ 2 → ⊥) → [] ≡ firstSteps s im c p
   unfolding firstSteps
   firstSteps-none f = rw (ne-eqb (p .needed) 2 f)
 
-  pub firstSteps-merge : p .needed ≡ 2 → mergeSteps s im c p ≡ firstSteps s im c p
+  pub firstSteps-merge : p .needed ≡ 2 → renewalSteps s im c (p .merge) [] ≡ firstSteps s im c p
   unfolding firstSteps
   firstSteps-merge e = rw (eq-eqb (p .needed) 2 e)
 

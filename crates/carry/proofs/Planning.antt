@@ -1,22 +1,24 @@
--- The plan of a write that is not refused can be carried out, and has the steps of the definition.
+-- What a block write or a write that is not refused plans can be carried out, and has the steps of the definition.
 use mathlib.Core.Path.{_≡_, refl, sym, ap, _∙_, subst}
 use mathlib.Core.Logic.{inl, inr}
 use mathlib.Core.Bool.{Bool, true, false, cond}
-use mathlib.Core.List.{List, [], _∷_, _++_}
-use Prim.Native.Nat.{ℕ, _+_, _<_, _≤_}
+use mathlib.Core.List.{List, [], _∷_, _++_, map}
+use Prim.Native.Nat.{ℕ, _+_, _*_, _<_, _≤_}
 use native.Mathlib.Omega.{arith}
 use lib.Dec.{T}
 use lib.ListN.{length}
+use borrow.Author.Tests.{ne-eqb}
 use Rattle.rules.specs.declared.shape.Shape.{Shape}
 use Rattle.rules.specs.declared.block.State.the-variants.{Free}
 use Rattle.rules.specs.declared.block.Block.{Block}
-use Rattle.rules.specs.Below.{none, ifAny}
+use Rattle.rules.specs.Below.{none, ifAny, listBelow}
 use Rattle.rules.specs.Spare.{logKind, copyKind, numberLimit}
 use Rattle.rules.specs.Shape.{pageNo, blockOf, inRange, logicalPage}
 use Rattle.rules.specs.Page.{Image}
 use Rattle.rules.specs.Facts.{Fits}
 use Rattle.rules.specs.WellFormed.{Blocks, notUsed, isFree, isUsed, isComplete, isLive, dataBlock, liveLog, blockAt, blocksOf}
-use Rattle.rules.specs.Steps.{Step, stepDone, stepsDone, entryStep, taken, highest, newNumber, copies, renewal, mergeList, Case, room, fresh, merging, writeCase, numbersNeeded, mergeFirst, logBlock, logNumber, ownStep, eraseAfter, ownList, writeList}
+use Rattle.rules.specs.Content.{content}
+use Rattle.rules.specs.Steps.{Step, erase, stepDone, stepsDone, entryStep, taken, highest, newNumber, copyStep, copies, renewal, mergeList, Case, room, fresh, merging, writeCase, numbersNeeded, mergeFirst, logBlock, logNumber, ownStep, eraseAfter, ownList, writeList, partOf, blockWriteList}
 use Rattle.laws.specs.Foreseen.{completes}
 use Rattle.laws.proofs.Tests.{is-false}
 use Rattle.laws.proofs.Shape.{inRange-small}
@@ -27,12 +29,57 @@ use Rattle.laws.proofs.Steps.{nextStep, used-numbers}
 use Rattle.laws.proofs.Erasing.{Sound, logical-few}
 use Rattle.laws.proofs.Merged.{free-record, moment-content, merged, merged-fits, merged-taken, merged-number, merged-next}
 use Rattle.laws.proofs.Completed.{next-completes, first-incomplete}
-use Rattle.laws.proofs.Cases.{MergeFirst, Cases, has-room, has-none, must-merge, write-cases, merge-log, merge-logical}
+use Rattle.laws.proofs.Cases.{MergeFirst, Cases, has-room, has-none, must-merge, write-cases, merge-logical}
 use Rattle.roles.specs.Passes.{BlockOrNone}
-use Rattle.roles.proofs.Seating.{dataBlock-in}
+use Rattle.roles.proofs.Seating.{dataBlock-in, liveLog-in}
 use Rattle.plans.specs.declared.plan.Plan.{Plan}
-use Rattle.plans.specs.Plans.{freeAfter, planFor, planOf}
-use Rattle.carry.specs.Carrying.{mergeSteps, firstSteps, planned, Doable}
+use Rattle.plans.specs.declared.renewal.Renewal.{Renewal}
+use Rattle.plans.specs.Plans.{renewalOf, freeAfter, planFor, planOf}
+use Rattle.carry.specs.Carrying.{renewalSteps, Sized, Renewable, Kept, firstSteps, planned, Doable}
+use Rattle.carry.proofs.Copying.{page-part}
+
+-- ---- a logical block made anew
+
+module _ (s : Shape) (im : Image) (w : Sound s im) (rec : Recovered s (blocksOf s im)) (l : ℕ) (hl : l < s .logical) (d : List ℕ)
+    (fit : newNumber s (blocksOf s im) ≤ numberLimit) where
+  abbrev c₀ : Blocks
+  c₀ = blocksOf s im
+
+  renewable : Sized s d → Renewable s (renewalOf s (blocksOf s im) l) d
+  unfolding renewalOf
+  renewable size =
+      record {
+        sized = size;
+        logical-small = omega (arith, logical-few s im w, w .fits .limits .blocks-high);
+        into-below = taken-free s c₀ (w .wf) rec (w .enough) .1;
+        log-in = liveLog-in s c₀ l (w .fits .limits .blocks-high);
+        data-in = dataBlock-in s c₀ l (w .fits .limits .blocks-high) refl;
+        number-high = fit;
+      }
+
+  -- with the parts of a buffer
+  module _ (long : length d ≡ s .pages * 512) where
+    given : length d ≡ 0 → ⊥
+    given e = omega (arith, w .fits .limits .pages-low)
+
+    -- the steps of a block write
+    steps : renewalSteps s im (blocksOf s im) (renewalOf s (blocksOf s im) l) d ≡ blockWriteList s (blocksOf s im) l d
+    unfolding renewalSteps renewalOf blockWriteList renewal copies
+    steps =
+        ap (λ (empty : Bool). listBelow (s .pages)
+        (copyStep s (taken s c₀) (newNumber s c₀) l (λ (o : ℕ). cond empty (content s im c₀ (logicalPage s l o)) (partOf d o)))
+        ++ map erase (ifAny (liveLog s c₀ l) ++ ifAny (dataBlock s c₀ l))) (ne-eqb (length d) 0 given)
+
+    -- no page to be programmed is read from the image
+    kept : Kept s im (blocksOf s im) (renewalOf s (blocksOf s im) l) d
+    unfolding renewalOf
+    kept = record { page-kept = λ m o h. sym (page-part s _ c₀ d (logicalPage s l o) o given) ∙ page-part s im c₀ d (logicalPage s l o) o given }
+
+    pub loadable : {c : Blocks} {r : Renewal} → c ≡ blocksOf s im → r ≡ renewalOf s c l
+        → Renewable s r d × Kept s im c r d × (renewalSteps s im c r d ≡ blockWriteList s (blocksOf s im) l d)
+    loadable {c} {r} scanned made =
+        let is : r ≡ renewalOf s (blocksOf s im) l = made ∙ ap (λ (k : Blocks). renewalOf s k l) scanned in
+        rw (scanned, is) (renewable (inr long), kept, steps)
 
 -- ---- the steps of the definition, by what the write needs
 
@@ -128,11 +175,8 @@ module _ (s : Shape) (im : Image) (w : Sound s im) (rec : Recovered s (blocksOf 
         next-completes s im (w .fits) v (cs v .number) logKind a d (writable (cs v .number) (bounds .0) (bounds .1)) joins long some in
         let z : cs v .number + 0 ≡ cs v .number = omega arith in (
           record {
-            into-below = λ e. absurd (omega arith);
+            renewable = λ e. absurd (omega arith);
             kept = λ e. absurd (omega arith);
-            merged-small = omega arith;
-            log-in = inr refl;
-            data-in = inr refl;
             former-in = former-found (completes s (cs v) a);
             block-below = below;
             place-below = h;
@@ -145,11 +189,8 @@ module _ (s : Shape) (im : Image) (w : Sound s im) (rec : Recovered s (blocksOf 
   unfolding planned firstSteps stepsDone
   fresh-right q = (
     record {
-      into-below = λ e. absurd (omega arith);
+      renewable = λ e. absurd (omega arith);
       kept = λ e. absurd (omega arith);
-      merged-small = omega arith;
-      log-in = inr refl;
-      data-in = inr refl;
       former-in = inr refl;
       block-below = taken-below;
       place-below = omega (arith, w .fits .limits .pages-low);
@@ -159,7 +200,7 @@ module _ (s : Shape) (im : Image) (w : Sound s im) (rec : Recovered s (blocksOf 
   )
 
   merge-right : (m : ℕ) → MergeFirst s im w l m → highest s cs + 2 ≤ numberLimit → Right (merging m)
-  unfolding planned firstSteps mergeSteps mergeList renewal copies freeAfter
+  unfolding planned firstSteps renewalSteps renewalOf mergeList renewal copies freeAfter
   merge-right m first q =
       let hm : m < s .logical = merge-logical s im w l first in
       let r : newNumber s cs ≤ numberLimit = omega arith in
@@ -168,11 +209,8 @@ module _ (s : Shape) (im : Image) (w : Sound s im) (rec : Recovered s (blocksOf 
       let eb : taken s (blocksOf s im′) ≡ b = merged-taken s im w rec m hm r in
       let next = merged-next s im w rec m hm r in (
         record {
-          into-below = λ e. taken-below;
-          kept = λ e. record { content-kept = λ i o h. moment-content s im w rec m hm r i h (logicalPage s m o) };
-          merged-small = omega (arith, logical-few s im w, w .fits .limits .blocks-high);
-          log-in = inl (merge-log s im w l first);
-          data-in = data-found m;
+          renewable = λ e. renewable s im w rec m hm [] r (inl refl);
+          kept = λ e. record { page-kept = λ i o h. moment-content s im w rec m hm r i h (logicalPage s m o) };
           former-in = inr refl;
           block-below = subst (λ (i : ℕ). i < s .blocks) eb (next .0);
           place-below = omega (arith, w .fits .limits .pages-low);

@@ -1,17 +1,18 @@
-// A plan carried out: the merge, if there is one, the page itself, and the erase of a block that it makes useless.
+// A logical block made anew; and the plan of a write carried out: the merge, if there is one, the page itself, and the erase of a block that it makes useless.
 ghost use mathlib.Core.Path.{_≡_};
 ghost use mathlib.Core.List.{[], _∷_, map};
 ghost use Prim.Native.Nat.{_<_};
 ghost use lib.ListN.{length};
 ghost use Rattle.rules.specs.Below.{ifAny};
-ghost use Rattle.rules.specs.Shape.{most};
-ghost use Rattle.rules.specs.Steps.{erase, copyStep, contents};
+ghost use Rattle.rules.specs.Steps.{erase};
 ghost use Rattle.rules.specs.Facts.{Within, imageOf};
 ghost use Rattle.words.specs.Words.{recordsIn};
 ghost use Rattle.roles.specs.Passes.{Numbers, BlockOrNone};
 ghost use Rattle.steps.specs.Runs.{Sane, Does};
-ghost use Rattle.carry.specs.Carrying.{copiesTo, mergeSteps, firstSteps, planned, Kept, Doable};
+ghost use Rattle.carry.specs.Carrying.{Sized, pageFor, copyTo, copiesTo, renewalSteps, Renewable, Kept, firstSteps, planned, Doable};
+use nand::bytes::copy_over;
 use plans::plan::Plan;
+use plans::renewal::Renewal;
 use roles::role;
 use rules::page::COPY;
 use rules::page::LOG;
@@ -20,53 +21,77 @@ use rules::shape::Shape;
 use steps::budget;
 use steps::budget::Budget;
 
-// Copies the content of offset o of logical block l to its place in block f.
-fn copy_page<'a>(
-    bytes: &mut [u8],
-    spare: &mut [u8],
+// Fills the page buffer with what logical page a gets: part o of the block buffer, or with an empty one the present content.
+fn fill_page<'a>(
+    bytes: &[u8],
+    spare: &[u8],
+    block: &[u8],
+    page: &mut [u8],
     s: Shape,
     list: &'a [u64; MOST],
     numbers: &'a [u32; MOST],
-    l: usize,
-    f: usize,
-    n: u32,
+    a: usize,
+    o: usize,
+)
+    requires { ⌜ Within s (length (now bytes)) (length (now spare)) × Sized s (now block) × (length (now page) ≡ 512)
+        × Numbers s (recordsIn (now list)) (now numbers) × (o < s .pages) ⌝ }
+    ensures { λ _. ⌜ now (page .exit) ≡ pageFor s (imageOf (now (bytes .entry)) (now (spare .entry)))
+        (recordsIn (now (list .entry))) (now (block .entry)) a o ⌝ }
+{
+    if block.len() == 0 {
+        content::fetch(bytes, spare, page, s, list, numbers, a);
+        return;
+    }
+    let at = o * 512;
+    copy_over(page, &block[at..at + 512]);
+}
+
+// Programs the page at offset o.
+fn copy_page<'a>(
+    bytes: &mut [u8],
+    spare: &mut [u8],
+    block: &[u8],
+    s: Shape,
+    list: &'a [u64; MOST],
+    numbers: &'a [u32; MOST],
+    r: Renewal,
     o: usize,
     t: Budget,
 ) -> Budget
     requires { ⌜ Within s (length (now bytes)) (length (now spare)) × Numbers s (recordsIn (now list)) (now numbers)
-        × (l < most) × (f < s .blocks) × (o < s .pages) × Sane t ⌝ }
-    ensures { λ r. ⌜ Does s (λ im. copyStep s f n l (contents s im (recordsIn (now (list .entry))) l) o ∷ []) t
-        (now (bytes .entry)) (now (spare .entry)) (now (bytes .exit)) (now (spare .exit)) r ⌝ }
+        × Renewable s r (now block) × (o < s .pages) × Sane t ⌝ }
+    ensures { λ q. ⌜ Does s (λ im. copyTo s im (recordsIn (now (list .entry))) r (now (block .entry)) o ∷ []) t
+        (now (bytes .entry)) (now (spare .entry)) (now (bytes .exit)) (now (spare .exit)) q ⌝ }
 {
     let pages = s.pages;
-    let a = l * pages + o;
+    let a = r.logical * pages + o;
     let mut page = [255u8; 512];
-    content::fetch(bytes, spare, &mut page, s, list, numbers, a);
-    budget::program_entry(bytes, spare, s, s.page_no(f, o), n, COPY, a, &page, t)
+    fill_page(bytes, spare, block, &mut page, s, list, numbers, a, o);
+    let at = s.page_no(r.into, o);
+    budget::program_entry(bytes, spare, s, at, r.highest + 1, COPY, a, &page, t)
 }
 
-// Copies the pages of logical block l in order into block f.
+// Programs the pages in order.
 fn copy_all<'a>(
     bytes: &mut [u8],
     spare: &mut [u8],
+    block: &[u8],
     s: Shape,
     list: &'a [u64; MOST],
     numbers: &'a [u32; MOST],
-    l: usize,
-    f: usize,
-    n: u32,
+    r: Renewal,
     t: Budget,
 ) -> Budget
     requires { ⌜ Within s (length (now bytes)) (length (now spare)) × Numbers s (recordsIn (now list)) (now numbers)
-        × (l < most) × (f < s .blocks) × Kept s (imageOf (now bytes) (now spare)) (recordsIn (now list)) l f n × Sane t ⌝ }
-    ensures { λ r. ⌜ Does s (λ im. copiesTo s im (recordsIn (now (list .entry))) l f n (s .pages)) t
-        (now (bytes .entry)) (now (spare .entry)) (now (bytes .exit)) (now (spare .exit)) r ⌝ }
+        × Renewable s r (now block) × Kept s (imageOf (now bytes) (now spare)) (recordsIn (now list)) r (now block) × Sane t ⌝ }
+    ensures { λ q. ⌜ Does s (λ im. copiesTo s im (recordsIn (now (list .entry))) r (now (block .entry)) (s .pages)) t
+        (now (bytes .entry)) (now (spare .entry)) (now (bytes .exit)) (now (spare .exit)) q ⌝ }
 {
     let pages = s.pages;
     let mut u = t;
     let mut o = 0;
     while o < pages {
-        u = copy_page(bytes, spare, s, list, numbers, l, f, n, o, u);
+        u = copy_page(bytes, spare, block, s, list, numbers, r, o, u);
         o += 1;
     }
     u
@@ -81,34 +106,25 @@ fn erase_found(bytes: &mut [u8], spare: &mut [u8], s: Shape, b: usize, t: Budget
     budget::erase_if(bytes, spare, s, b != role::NONE, b, t)
 }
 
-// The merge of a plan that has one.
-fn merge<'a>(
+// Makes a logical block anew: with the P parts of the block buffer, or with an empty one with its present content.
+pub fn renew<'a>(
     bytes: &mut [u8],
     spare: &mut [u8],
+    block: &[u8],
     s: Shape,
     list: &'a [u64; MOST],
     numbers: &'a [u32; MOST],
-    p: Plan,
+    r: Renewal,
     t: Budget,
 ) -> Budget
     requires { ⌜ Within s (length (now bytes)) (length (now spare)) × Numbers s (recordsIn (now list)) (now numbers)
-        × Doable s (imageOf (now bytes) (now spare)) (recordsIn (now list)) p × (p .needed ≡ 2) × Sane t ⌝ }
-    ensures { λ r. ⌜ Does s (λ im. mergeSteps s im (recordsIn (now (list .entry))) p) t
-        (now (bytes .entry)) (now (spare .entry)) (now (bytes .exit)) (now (spare .exit)) r ⌝ }
+        × Renewable s r (now block) × Kept s (imageOf (now bytes) (now spare)) (recordsIn (now list)) r (now block) × Sane t ⌝ }
+    ensures { λ q. ⌜ Does s (λ im. renewalSteps s im (recordsIn (now (list .entry))) r (now (block .entry))) t
+        (now (bytes .entry)) (now (spare .entry)) (now (bytes .exit)) (now (spare .exit)) q ⌝ }
 {
-    let copied = copy_all(
-        bytes,
-        spare,
-        s,
-        list,
-        numbers,
-        p.merged,
-        p.into,
-        p.number + 1,
-        t,
-    );
-    let cleared = erase_found(bytes, spare, s, p.log, copied);
-    erase_found(bytes, spare, s, p.data, cleared)
+    let copied = copy_all(bytes, spare, block, s, list, numbers, r, t);
+    let cleared = erase_found(bytes, spare, s, r.log, copied);
+    erase_found(bytes, spare, s, r.data, cleared)
 }
 
 // The merge that comes before the write's own page, if any.
@@ -129,7 +145,7 @@ fn first_steps<'a>(
     if p.needed != 2 {
         return t;
     }
-    merge(bytes, spare, s, list, numbers, p, t)
+    renew(bytes, spare, &[], s, list, numbers, p.merge, t)
 }
 
 // Carries the plan out.

@@ -14,13 +14,13 @@ use Rattle.rules.specs.Shape.{withinLimits}
 use Rattle.rules.specs.Page.{Image}
 use Rattle.rules.specs.Facts.{Limits}
 use Rattle.rules.specs.WellFormed.{Blocks, blocksOf, isGood, isFree, isObsolete}
-use Rattle.rules.specs.Steps.{Step, program, erase, programs, erases, formatList, powerUpList, writeList}
-use Rattle.rules.specs.Replies.{number, programsOf, erasesOf, Test, _when_, firstRefusal, outsideLimits, formatRefusal, powerUpRefusal, readRefusal, writeRefusal, carriedOut, refusedBy, unless, formatReply, powerUpReply, readReply, writeReply}
+use Rattle.rules.specs.Steps.{Step, program, erase, programs, erases, formatList, powerUpList, writeList, blockWriteList}
+use Rattle.rules.specs.Replies.{number, programsOf, erasesOf, Test, _when_, firstRefusal, outsideLimits, formatRefusal, powerUpRefusal, readRefusal, writeRefusal, blockWriteRefusal, carriedOut, refusedBy, unless, formatReply, powerUpReply, readReply, writeReply, blockWriteReply}
 use Rattle.laws.proofs.Tests.{cond-both, and-l, and-r}
 use Rattle.laws.proofs.First.{numbered, first-none}
 use Rattle.laws.proofs.Shape.{withinLimits-within}
 use Rattle.history.proofs.Answers.{passes}
-use Rattle.history.proofs.Demands.{short-lists}
+use Rattle.history.proofs.Demands.{short-lists, block-write-lists}
 use Rattle.hamutsigra.specs.Results.{packed, InBits}
 
 -- ---- the three parts of an answer, read back from their bits
@@ -117,3 +117,10 @@ module _ (s : Shape) (im : Image) where
   writeReply-fits a d cut =
       reply-fits (writeRefusal s im c (length d) a) cut (writeList s im c a d) (first-small _ tt)
       (λ z. omega (arith, limits s im _ tt z .pages-high, counts-length (writeList s im c a d), short-lists s im a d z .0, short-lists s im a d z .1))
+
+  pub blockWriteReply-fits : (l : ℕ) (d : List ℕ) (cut : ℕ) → InBits (blockWriteReply s im l d cut .answer)
+  unfolding blockWriteReply blockWriteRefusal
+  blockWriteReply-fits l d cut =
+      let short = block-write-lists s c l d in
+      reply-fits (blockWriteRefusal s im c (length d) l) cut (blockWriteList s c l d) (first-small _ tt)
+      (λ z. omega (arith, limits s im _ tt z .pages-high, counts-length (blockWriteList s c l d), short .0, short .1))

@@ -5,7 +5,7 @@ use Prim.Native.Nat.{ℕ}
 use Rattle.rules.specs.declared.shape.Shape.{Shape}
 use Rattle.rules.specs.declared.answer.Answer.{Answer}
 use Rattle.rules.specs.Page.{Image}
-use Rattle.rules.specs.Promises.{FormatDone, PowerUpDone, ReadDone, WriteDone}
+use Rattle.rules.specs.Promises.{FormatDone, PowerUpDone, ReadDone, WriteDone, BlockWriteDone}
 use Rattle.card.proofs.Unique as card
 use Rattle.hamutsigra.specs.Results.{packed, Result, lentByte, LentFrom}
 
@@ -28,6 +28,10 @@ module _ (s : Shape) (im : Image) {r r′ : ℕ} where
     pub write-one : (n : ℕ) (page : List ℕ) (cut : ℕ) → Result (λ a. WriteDone s im n page cut a bytes spare) r
         → Result (λ a. WriteDone s im n page cut a bytes′ spare′) r′ → (r ≡ r′) × (bytes ≡ bytes′) × (spare ≡ spare′)
     write-one n page cut x y = let e = card.write-one s im n page cut (x .kept) (y .kept) in (result-one x y (e .0), e .1, e .2)
+
+    pub blockWrite-one : (n : ℕ) (block : List ℕ) (cut : ℕ) → Result (λ a. BlockWriteDone s im n block cut a bytes spare) r
+        → Result (λ a. BlockWriteDone s im n block cut a bytes′ spare′) r′ → (r ≡ r′) × (bytes ≡ bytes′) × (spare ≡ spare′)
+    blockWrite-one n block cut x y = let e = card.blockWrite-one s im n block cut (x .kept) (y .kept) in (result-one x y (e .0), e .1, e .2)
 
   pub read-one : (old : List ℕ) (n : ℕ) {page page′ : List ℕ} → Result (λ a. ReadDone s im old n a page) r
       → Result (λ a. ReadDone s im old n a page′) r′ → (r ≡ r′) × (page ≡ page′)

@@ -1,7 +1,7 @@
 // The commands for C and C++, as include/hamutsigra.h declares them: each slice is a pointer and a length there.
 ghost use mathlib.Core.Path.{_≡_};
 ghost use Rattle.rules.specs.Facts.{imageOf};
-ghost use Rattle.rules.specs.Promises.{given, FormatDone, PowerUpDone, ReadDone, WriteDone};
+ghost use Rattle.rules.specs.Promises.{given, FormatDone, PowerUpDone, ReadDone, WriteDone, BlockWriteDone};
 ghost use Rattle.hamutsigra.specs.Results.{packed, InBits, Result, LentFrom};
 use rules::answer::Answer;
 use rules::place::Place;
@@ -81,6 +81,24 @@ pub extern "C" fn hamutsigra_write(
         (λ s im. Result (λ a. WriteDone s im number (now (page .entry)) cut a (now (bytes .exit)) (now (spare .exit))) r) ⌝ }
 {
     pack(card::write(bytes, spare, page, pages, logical, logs, number, cut))
+}
+
+// Writes the block buffer to logical block `number`, all or none: its P parts are the pages.
+#[no_mangle]
+pub extern "C" fn hamutsigra_block_write(
+    bytes: &mut [u8],
+    spare: &mut [u8],
+    block: &[u8],
+    pages: usize,
+    logical: usize,
+    logs: usize,
+    number: usize,
+    cut: usize,
+) -> u64
+    ensures { λ r. ⌜ given pages logical logs (imageOf (now (bytes .entry)) (now (spare .entry)))
+        (λ s im. Result (λ a. BlockWriteDone s im number (now (block .entry)) cut a (now (bytes .exit)) (now (spare .exit))) r) ⌝ }
+{
+    pack(card::block_write(bytes, spare, block, pages, logical, logs, number, cut))
 }
 
 // Says where logical page `number` lies: the byte of the data image where its 512 bytes start, or 2^64 - 1.

@@ -15,7 +15,7 @@ use Rattle.rules.specs.Shape.{goodNeeded, blockOf, inRange, withinLimits}
 use Rattle.rules.specs.Page.{Image}
 use Rattle.rules.specs.WellFormed.{Blocks, blocksOf, wellFormed}
 use Rattle.rules.specs.Steps.{Step, programs, erases, highest, writeCase, numbersNeeded}
-use Rattle.rules.specs.Replies.{number, programsOf, erasesOf, goodBlocks, outsideLimits, tooFewGood, unrecovered, outOfNumbers, powerUpRefusal, readRefusal, writeRefusal, unless, refusedBy, carriedOut, powerUpTests, readTests, writeTests}
+use Rattle.rules.specs.Replies.{number, programsOf, erasesOf, goodBlocks, firstRefusal, outsideLimits, tooFewGood, unrecovered, outOfNumbers, powerUpRefusal, readRefusal, writeRefusal, blockWriteRefusal, unless, refusedBy, carriedOut, powerUpTests, readTests, writingTests}
 use Rattle.laws.proofs.First.{first-none, first-by}
 use Rattle.laws.proofs.Tests.{cond-yes, cond-no, dec-lt, nlt→ltb}
 use Rattle.laws.proofs.Shape.{withinLimits-within, within-withinLimits}
@@ -66,28 +66,41 @@ module _ (s : Shape) (im : Image) where
 
 -- ---- what no refusal says
 
-pub record WriteTaken (s : Shape) (im : Image) (size a : ℕ) : Type 0 where
+-- of a write or block write: given `size` bytes where `want` are asked, for a place that is in range or not, with new numbers needed
+pub record Taken (s : Shape) (im : Image) (size want : ℕ) (place : Bool) (needed : ℕ) : Type 0 where
   pub sound : Sound s im
-  pub long : size ≡ 512
-  pub inside : T (inRange s a)
+  pub long : size ≡ want
+  pub inside : T place
   pub clean : Recovered s (blocksOf s im)
-  pub fit : highest s (blocksOf s im) + numbersNeeded (writeCase s (blocksOf s im) (blockOf s a)) ≤ numberLimit
+  pub fit : highest s (blocksOf s im) + needed ≤ numberLimit
 
-pub write-taken : (s : Shape) (im : Image) (size a : ℕ) → writeRefusal s im (blocksOf s im) size a ≡ 0 → WriteTaken s im size a
-unfolding writeRefusal
-write-taken s im size a e =
-    let (f₁, (f₂, (f₃, (f₄, (f₅, (f₆, (f₇, _))))))) = first-none (writeTests s im c′ size a) tt e in
-    let w = sound-of s im f₁ f₄ (passes (wellFormed s c′) f₅) in
+taken : (s : Shape) (im : Image) (size want : ℕ) (place : Bool) (needed : ℕ) → firstRefusal (writingTests s im (blocksOf s im) (eqb size want) place needed) ≡ 0
+    → Taken s im size want place needed
+taken s im size want place needed e =
+    let (f₁, (f₂, (f₃, (f₄, (f₅, (f₆, (f₇, _))))))) = first-none (writingTests s im (blocksOf s im) (eqb size want) place needed) tt e in
+    let w = sound-of s im f₁ f₄ (passes (wellFormed s (blocksOf s im)) f₅) in
     record {
       sound = w;
-      long = eqb→eq size 512 (passes (eqb size 512) f₂);
-      inside = passes (inRange s a) f₃;
-      clean = recovered-e s c′ (w .wf .records) f₆;
-      fit = nltb→le numberLimit (highest s c′ + numbersNeeded (writeCase s c′ (blockOf s a))) (not-T (outOfNumbers s c′ (blockOf s a)) f₇);
+      long = eqb→eq size want (passes (eqb size want) f₂);
+      inside = passes place f₃;
+      clean = recovered-e s (blocksOf s im) (w .wf .records) f₆;
+      fit = nltb→le numberLimit (highest s (blocksOf s im) + needed) (not-T (outOfNumbers s (blocksOf s im) needed) f₇);
     }
-  where
-    c′ : Blocks
-    c′ = blocksOf s im
+
+module _ (s : Shape) (im : Image) (size : ℕ) where
+  abbrev pub WriteTaken : ℕ → Type 0
+  WriteTaken a = Taken s im size 512 (inRange s a) (numbersNeeded (writeCase s (blocksOf s im) (blockOf s a)))
+
+  abbrev pub BlockWriteTaken : ℕ → Type 0
+  BlockWriteTaken l = Taken s im size (s .pages * 512) (ltb l (s .logical)) 1
+
+  pub write-taken : (a : ℕ) → writeRefusal s im (blocksOf s im) size a ≡ 0 → WriteTaken a
+  unfolding writeRefusal
+  write-taken a = taken s im size 512 (inRange s a) (numbersNeeded (writeCase s (blocksOf s im) (blockOf s a)))
+
+  pub block-write-taken : (l : ℕ) → blockWriteRefusal s im (blocksOf s im) size l ≡ 0 → BlockWriteTaken l
+  unfolding blockWriteRefusal
+  block-write-taken l = taken s im size (s .pages * 512) (ltb l (s .logical)) 1
 
 pub record ReadTaken (s : Shape) (im : Image) (size a : ℕ) : Type 0 where
   pub sound : Sound s im
@@ -128,14 +141,15 @@ module _ (s : Shape) (im : Image) (w : Sound s im) (Q : ℕ → Type 0) where
       first-by Q (readTests s im k size a)
       ((λ t. absurd (sound-1 s im w t)), (q2, (q3, ((λ t. absurd (sound-4 s im w t)), ((λ t. absurd (not-5 s im w t)), tt))))) q0
 
-  pub write-refusal : (size a : ℕ) → (T (not (eqb size 512)) → Q 2) → (T (not (inRange s a)) → Q 3) → (T (unrecovered s (blocksOf s im)) → Q 6)
-      → (T (outOfNumbers s (blocksOf s im) (blockOf s a)) → Q 7)
+  -- of a write or block write
+  pub writing-refusal : (size want : ℕ) (place : Bool) (needed : ℕ) → (T (not (eqb size want)) → Q 2) → (T (not place) → Q 3)
+      → (T (unrecovered s (blocksOf s im)) → Q 6)
+      → Q 7
       → Q 0
-      → Q (writeRefusal s im (blocksOf s im) size a)
-  unfolding writeRefusal
-  write-refusal size a q2 q3 q6 q7 q0 =
-      first-by Q (writeTests s im k size a)
-      ((λ t. absurd (sound-1 s im w t)), (q2, (q3, ((λ t. absurd (sound-4 s im w t)), ((λ t. absurd (not-5 s im w t)), (q6, (q7, tt))))))) q0
+      → Q (firstRefusal (writingTests s im (blocksOf s im) (eqb size want) place needed))
+  writing-refusal size want place needed q2 q3 q6 q7 q0 =
+      first-by Q (writingTests s im (blocksOf s im) (eqb size want) place needed)
+      ((λ t. absurd (sound-1 s im w t)), (q2, (q3, ((λ t. absurd (sound-4 s im w t)), ((λ t. absurd (not-5 s im w t)), (q6, ((λ t. q7), tt))))))) q0
 
 -- ---- replies
 

@@ -1,14 +1,14 @@
 -- Histories, command by command: contents, steps and wear.
 use mathlib.Core.Path.{_≡_, refl, sym, ap, _∙_, subst}
 use mathlib.Core.Logic.{inl, inr}
-use mathlib.Core.Bool.{Bool, _||_}
+use mathlib.Core.Bool.{Bool, true, false, _&&_, _||_, cond}
 use mathlib.Core.List.{List, [], _∷_}
 use Prim.Native.Nat.{ℕ, suc, _+_, _-_, _*_, _≤_, _<_}
 use native.Mathlib.Omega.{arith}
 use lib.Dec.{T, eqb, eqb→eq, eqb-refl, T-not}
 use Rattle.rules.specs.declared.shape.Shape.{Shape}
 use Rattle.rules.specs.Below.{countBelow}
-use Rattle.rules.specs.Shape.{shapeOf, blockOf}
+use Rattle.rules.specs.Shape.{shapeOf}
 use Rattle.rules.specs.Page.{Image}
 use Rattle.rules.specs.WellFormed.{Blocks, isLive, liveLog, liveLogs, blocksOf}
 use Rattle.rules.specs.Replies.{shapeFor, imageLeft}
@@ -16,7 +16,7 @@ use Rattle.rules.specs.Facts.{Fits}
 use Rattle.laws.proofs.Tests.{tcase, and-l, and-r, and-i, or-r}
 use Rattle.laws.proofs.Below.{bit, bit-one, bit-zero, bit-mono, sumBelow, sumBelow-move, countBelow-sum, countBelow-places}
 use Rattle.laws.proofs.Roles.{live-used, liveLog-found, below-none, used-below}
-use Rattle.history.specs.History.{Command, replyTo, Event, eventsFrom, imageAfter, lastFrom, isWrite, answered, doneOrCut, wasCut, howMany, erasesIn, pageOfWrite, FallIn, stepsIn}
+use Rattle.history.specs.History.{Command, read, write, blockWrite, powerUp, replyTo, Event, eventsFrom, imageAfter, lastFrom, isWrite, answered, doneOrCut, wasCut, worth, writesIn, cutsIn, erasesIn, blockWritten, FallIn, stepsIn}
 use Rattle.laws.proofs.Change.{NoLive}
 use Rattle.laws.proofs.Along.{AllAllowed, allowed-append}
 use Rattle.laws.proofs.Erasing.{Sound, contentOf, obsoletes}
@@ -65,11 +65,11 @@ module _ (s : Shape) where
   sound-after im (x ∷ xs) w = sound-after (left s im x) xs (outcome s im w x .sound)
 
   pub holds-after : (im : Image) (xs : List Command) → Sound s im → (a : ℕ)
-      → contentOf s (after s im xs) a ≡ lastFrom (eventsOf s im xs) a (contentOf s im a)
+      → contentOf s (after s im xs) a ≡ lastFrom s (eventsOf s im xs) a (contentOf s im a)
   holds-after im [] w a = refl
   holds-after im (x ∷ xs) w a =
       let o = outcome s im w x in
-      holds-after (left s im x) xs (o .sound) a ∙ ap (lastFrom (eventsOf s (left s im x) xs) a) (o .holds a)
+      holds-after (left s im x) xs (o .sound) a ∙ ap (lastFrom s (eventsOf s (left s im x) xs) a) (o .holds a)
 
   pub allowed-after : (im : Image) (xs : List Command) → Sound s im → AllAllowed s (stepsIn (eventsOf s im xs)) im
   allowed-after im [] w = tt
@@ -85,16 +85,25 @@ module _ (s : Shape) where
       (λ t. and-i (isWrite (e .command)) (answered 0 (e .reply) || answered 8 (e .reply)) (and-l (isWrite (e .command)) (answered 8 (e .reply)) t)
       (or-r (answered 0 (e .reply)) (answered 8 (e .reply)) (and-r (isWrite (e .command)) (answered 8 (e .reply)) t)))
 
+  -- where P is not 0, each counts for one write at least
+  one-at-least : 1 ≤ s .pages → (x : Command) (b : Bool) → bit (isWrite x && b) ≤ cond (isWrite x && b) (worth (s .pages) x) 0
+  one-at-least h (read a buffer) b = omega arith
+  one-at-least h (write a d cut) b = omega arith
+  one-at-least h (blockWrite l d cut) true = h
+  one-at-least h (blockWrite l d cut) false = omega arith
+  one-at-least h (powerUp table cut) b = omega arith
+
   pub wear : (im : Image) (xs : List Command) → Sound s im
-      → erasesIn (eventsOf s im xs) + obsoletes s (after s im xs) ≤ obsoletes s im + 2 * howMany doneOrCut (eventsOf s im xs)
+      → erasesIn (eventsOf s im xs) + obsoletes s (after s im xs) ≤ obsoletes s im + 2 * writesIn (s .pages) (eventsOf s im xs)
   wear im [] w = omega arith
   wear im (x ∷ xs) w =
       let o = outcome s im w x in
       let e : Event = record { command = x; reply = replyTo s im x } in
       let r = wear (left s im x) xs (o .sound) in
+      let some = one-at-least (omega (arith, w .fits .limits .pages-low)) x (answered 0 (e .reply) || answered 8 (e .reply)) in
       elim (o .paid) [
-        | inl q ↦ omega (arith, q .1, cut-too e)
-        | inr q ↦ omega (arith, q .2, bit-one (doneOrCut e) (q .0))
+        | inl q ↦ omega (arith, q .1, cut-too e, some)
+        | inr q ↦ omega (arith, q .2, bit-one (doneOrCut e) (q .0), some)
       ]
 
 -- ---- writes in at most K logical blocks
@@ -137,21 +146,20 @@ module _ (s : Shape) (S : ℕ → Bool) (few : countBelow (s .logical) S ≤ s .
             | inr z ↦ absurd (v (c j .logical) (T-not (S (c j .logical)) z) j u refl)
           ]
 
-  -- full: the full log blocks that went
+  -- full: the full log blocks that went, and the block writes
   pub wear-few : (im : Image) (xs : List Command) → Sound s im → Inside im → FallIn s S (eventsOf s im xs)
-      → (full : ℕ) × (s .pages * full + logPages s (blocksOf s (after s im xs)) ≤ logPages s (blocksOf s im) + howMany doneOrCut (eventsOf s im xs))
-      × (erasesIn (eventsOf s im xs) + obsoletes s (after s im xs) ≤ obsoletes s im + 2 * full + howMany wasCut (eventsOf s im xs))
+      → (full : ℕ) × (s .pages * full + logPages s (blocksOf s (after s im xs)) ≤ logPages s (blocksOf s im) + writesIn (s .pages) (eventsOf s im xs))
+      × (erasesIn (eventsOf s im xs) + obsoletes s (after s im xs) ≤ obsoletes s im + 2 * full + cutsIn (eventsOf s im xs))
   wear-few im [] w v f = (0, omega arith, omega arith)
   wear-few im (x ∷ xs) w v f =
       let o = outcome s im w x in
-      let e : Event = record { command = x; reply = replyTo s im x } in
       let v′ : Inside (left s im x) = λ l n. o .noLive l (λ t q. n (subst (λ (m : ℕ). T (S m)) (sym q) (f .0 t))) (v l n) in
       let r = wear-few (left s im x) xs (o .sound) v′ (f .1) in
       elim (o .paid) [
         | inl q ↦ (r .0, omega (arith, r .1, q .0), omega (arith, r .2, q .1))
         | inr q ↦
             elim (q .3) [
-              | inl p ↦ (suc (r .0), omega (arith, r .1, p, bit-one (doneOrCut e) (q .0)), omega (arith, r .2, q .2))
-              | inr y ↦ absurd (no-victim im w v (blockOf s (pageOfWrite x)) (f .0 (q .0)) (q .1) y)
+              | inl p ↦ (suc (r .0), omega (arith, r .1, p), omega (arith, r .2, q .2))
+              | inr y ↦ absurd (no-victim im w v (blockWritten s x) (f .0 (q .0)) (q .1) y)
             ]
       ]

@@ -4,6 +4,7 @@ pub mod Own
 pub mod Prepare
 pub mod Write
 pub mod Answers
+pub mod BlockWrite
 pub mod Happened
 pub mod Outcome
 pub mod Format

@@ -1,6 +1,6 @@
 -- A command as a plan: steps, its own program, from which on it has happened, and blocks erased then. What holds at every cut.
-use mathlib.Core.Path.{_≡_, refl, ap, subst}
-use mathlib.Core.Logic.{_≢_, _⊎_}
+use mathlib.Core.Path.{_≡_, refl, sym, ap, _∙_, subst}
+use mathlib.Core.Logic.{_≢_, _⊎_, inl}
 use mathlib.Core.Bool.{cond}
 use mathlib.Core.List.{List, [], _∷_, _++_, map}
 use Prim.Native.Nat.{ℕ, suc, _+_, _-_, _≤_, _<_}
@@ -9,6 +9,7 @@ use lib.ListN.{length, take}
 use lib.Seq.{take-append-le, take-append-add}
 use lib.Dec.{eqb}
 use Rattle.rules.specs.declared.shape.Shape.{Shape}
+use Rattle.rules.specs.declared.block.Block.{Block}
 use Rattle.rules.specs.Page.{Image}
 use Rattle.rules.specs.WellFormed.{blocksOf}
 use Rattle.rules.specs.Steps.{Step, erase, stepDone, stepsDone, erases}
@@ -18,7 +19,8 @@ use Rattle.laws.proofs.Roles.{Recovered}
 use Rattle.laws.proofs.Change.{NoLive}
 use Rattle.laws.proofs.Along.{Allowed, AllAllowed, Along, erases-append, along-cut, along-end, along-allowed, allowed-append}
 use Rattle.laws.proofs.Erasing.{Sound, contentOf, obsoletes}
-use Rattle.history.proofs.Cost.{logPages}
+use Rattle.laws.proofs.Renewal.{Renewing, Before}
+use Rattle.history.proofs.Cost.{logPages, logPages-is}
 
 -- the bytes of each logical page
 abbrev pub Memory : Type 0
@@ -41,7 +43,8 @@ unfolding written
 written-other a d m x n = cond-no (eqb x a) d (m x) (ne→eqb x a n)
 
 module _ (s : Shape) (im : Image) where
-  -- what e erases are paid with, obsolete blocks counted as erased: at most k; or at most 2, and a full log block went; or nothing is said
+  -- what e erases are paid with, obsolete blocks counted as erased: at most k; or at most 2, and a full log block went, or it counts for P
+  -- writes; or nothing is said
   abbrev pub Cost : Type 0 → ℕ → ℕ → ℕ → Image → Type 0
   Cost Any h k e im′ =
       ((logPages s (blocksOf s im′) ≤ logPages s (blocksOf s im) + h) × (e + obsoletes s im′ ≤ k))
@@ -62,6 +65,23 @@ module _ (s : Shape) (im : Image) where
   -- from its own program on: they are M, and it counts for h writes, in l
   abbrev pub Happened : Memory → ℕ → Type 0 → ℕ → ℕ → Image → Type 0
   Happened M l Any h e im′ = Mid M (λ m. m ≡ l) Any h 0 e im′
+
+  -- a logical block made anew, as part of a plan: no other gets a log block
+  pub renewing-mid : {M : Memory} {Open : ℕ → Type 0} {Any : Type 0} {h k : ℕ} (e : ℕ) (im′ : Image) → Renewing s im M e im′ → Cost Any h k e im′
+      → Mid M Open Any h k e im′
+  renewing-mid e im′ r cost =
+      record {
+        sound = r .sound;
+        holds = r .holds;
+        total = r .total;
+        noLive = λ l q none′ j t z. none′ j (r .live j t .0) (ap (λ (b : Block). b .logical) (sym (r .live j t .1)) ∙ z);
+        cost = cost;
+      }
+
+  -- before its last page
+  pub renewing-not-yet : {Any : Type 0} (e : ℕ) (im′ : Image) → Before s im e im′ → NotYet Any e im′
+  renewing-not-yet e im′ r =
+      renewing-mid e im′ (r .0) (inl (omega (arith, logPages-is s (blocksOf s im) (blocksOf s im′) (r .0 .live)), r .1))
 
   pub record PlanOk (pre : List Step) (own : Step) (post : List ℕ) (M : Memory) (l : ℕ) (Any : Type 0) (h : ℕ) : Type 0 where
     pub before : Along s (NotYet Any) 0 pre im

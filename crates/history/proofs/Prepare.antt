@@ -16,11 +16,11 @@ use Rattle.laws.proofs.Change.{NoLive, LiveIs}
 use Rattle.laws.proofs.Along.{Along}
 use Rattle.laws.proofs.Steps.{used-numbers}
 use Rattle.laws.proofs.Erasing.{Sound, contentOf, obsoletes}
-use Rattle.laws.proofs.Renewal.{Before, After}
+use Rattle.laws.proofs.Renewal.{After}
 use Rattle.laws.proofs.Merge.{merge-along, merge-end}
 use Rattle.laws.proofs.Cases.{Victim, MergeFirst, Cases, has-room, has-none, must-merge, merge-log, merge-logical}
-use Rattle.history.proofs.Cost.{logPages, logPages-is, logPages-drop, liveLogs-drop}
-use Rattle.history.proofs.Plan.{Cost, NotYet}
+use Rattle.history.proofs.Cost.{logPages, logPages-drop, liveLogs-drop}
+use Rattle.history.proofs.Plan.{Cost, NotYet, renewing-mid, renewing-not-yet}
 use Rattle.history.proofs.Own.{Place}
 
 -- a recovered card has no obsolete block
@@ -106,32 +106,12 @@ module _ (s : Shape) (im : Image) (w : Sound s im) (l : ℕ) where
             | inr u ↦ inr u
           ]
 
-      keeps : (im′ : Image) → LiveIs s c (blocksOf s im′) → (k : ℕ) → (⊥ → ⊥) → NoLive s c k → NoLive s (blocksOf s im′) k
-      keeps im′ f k x none′ j t e = none′ j (f j t .0) (ap (λ (z : Block). z .logical) (sym (f j t .1)) ∙ e)
-
-      copying-pre : (e : ℕ) (im′ : Image) → Before s im e im′ → Pre e im′
-      copying-pre e im′ r =
-          record {
-            sound = r .0 .sound;
-            holds = r .0 .holds;
-            total = r .0 .total;
-            noLive = keeps im′ (r .0 .live);
-            cost = inl (omega (arith, logPages-is s c (blocksOf s im′) (r .0 .live)), r .1);
-          }
-
       copied-pre : (e : ℕ) (im′ : Image) → After s im m (contentOf s im) e im′ → Pre e im′
-      copied-pre e im′ r =
-          record {
-            sound = r .0 .sound;
-            holds = r .0 .holds;
-            total = r .0 .total;
-            noLive = keeps im′ (r .0 .live);
-            cost = inr (merge-cost e im′ r);
-          }
+      copied-pre e im′ r = renewing-mid s im e im′ (r .0) (inr (merge-cost e im′ r))
 
       merge-goal : Goal (merging m)
       merge-goal = (
-        merge-along s im w m rec m-below one Pre copying-pre copied-pre,
+        merge-along s im w m rec m-below one Pre (renewing-not-yet s im) copied-pre,
         record {
           before = copied-pre e₁ im₁ r;
           clean = r′;

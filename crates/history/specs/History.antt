@@ -1,4 +1,4 @@
--- Histories: a format that is answered 0, and then any reads, writes and power-ups, refused ones too.
+-- Histories: a format that is answered 0, and then any reads, writes, block writes and power-ups, refused ones too.
 --
 -- A later format begins a history of its own, since the image given is any image, and one that is cut promises only its steps. Page lending
 -- changes nothing.
@@ -10,18 +10,20 @@ use lib.Dec.{T, eqb}
 use lib.ListN.{length, replicate}
 use Rattle.rules.specs.declared.shape.Shape.{Shape}
 use Rattle.rules.specs.Spare.{logKind, kindIn, addressIn}
-use Rattle.rules.specs.Shape.{blockOf}
+use Rattle.rules.specs.Shape.{blockOf, offsetOf}
 use Rattle.rules.specs.Page.{Image, pageBytes, pageSpare, erased}
-use Rattle.rules.specs.Steps.{Step, program, erase, stepDone, programs, erases}
-use Rattle.rules.specs.Replies.{Reply, number, programsOf, erasesOf, shapeFor, imageLeft, formatReply, powerUpReply, readReply, writeReply}
+use Rattle.rules.specs.Steps.{Step, program, erase, stepDone, programs, erases, partOf}
+use Rattle.rules.specs.Replies.{Reply, number, programsOf, erasesOf, shapeFor, imageLeft, formatReply, powerUpReply, readReply, writeReply, blockWriteReply}
 
--- ---- commands, with any page number, any buffer and table, any bytes and any cut
+-- ---- commands, with any page or block number, any buffer and table, any bytes and any cut
 
 pub data Command : Type 0 where
   -- a page, and the page buffer lent
   read : ℕ → List ℕ → Command
   -- a page, its bytes, and the cut number
   write : ℕ → List ℕ → ℕ → Command
+  -- a logical block, its P x 512 bytes, and the cut number
+  blockWrite : ℕ → List ℕ → ℕ → Command
   -- the table lent, and the cut number
   powerUp : List ℕ → ℕ → Command
 
@@ -29,6 +31,7 @@ pub data Command : Type 0 where
 abbrev pub replyTo : Shape → Image → Command → Reply
 replyTo s im (read a buffer) = readReply s im (length buffer) a
 replyTo s im (write a d cut) = writeReply s im a d cut
+replyTo s im (blockWrite l d cut) = blockWriteReply s im l d cut
 replyTo s im (powerUp table cut) = powerUpReply s im (length table) cut
 
 pub record Event : Type 0 where
@@ -115,19 +118,24 @@ ownDone a (t ∷ ts) = isOwn a t || ownDone a ts
 unfoldable pub happened : ℕ → Reply → Bool
 happened a r = answered 0 r || (answered 8 r && ownDone a (r .steps))
 
+-- A block write has happened exactly if it was answered 0, or 8 with the last of its P programs among the steps done, that is all P.
+unfoldable pub blockHappened : Shape → Reply → Bool
+blockHappened s r = answered 0 r || (answered 8 r && eqb (programs (r .steps)) (s .pages))
+
 -- what page a reads as after a command, if it read as `before` till then
-abbrev pub pageAfter : Command → Reply → ℕ → List ℕ → List ℕ
-pageAfter (read b buffer) r a before = before
-pageAfter (write b d cut) r a before = cond (eqb a b && happened b r) d before
-pageAfter (powerUp table cut) r a before = before
+abbrev pub pageAfter : Shape → Command → Reply → ℕ → List ℕ → List ℕ
+pageAfter s (read b buffer) r a before = before
+pageAfter s (write b d cut) r a before = cond (eqb a b && happened b r) d before
+pageAfter s (blockWrite l d cut) r a before = cond (eqb (blockOf s a) l && blockHappened s r) (partOf d (offsetOf s a)) before
+pageAfter s (powerUp table cut) r a before = before
 
-abbrev pub lastFrom : List Event → ℕ → List ℕ → List ℕ
-lastFrom [] a before = before
-lastFrom (e ∷ es) a before = lastFrom es a (pageAfter (e .command) (e .reply) a before)
+abbrev pub lastFrom : Shape → List Event → ℕ → List ℕ → List ℕ
+lastFrom s [] a before = before
+lastFrom s (e ∷ es) a before = lastFrom s es a (pageAfter s (e .command) (e .reply) a before)
 
--- the bytes of the last write of page a that happened, or 512 bytes of 255
-abbrev pub lastWrite : List Event → ℕ → List ℕ
-lastWrite es a = lastFrom es a (replicate 512 255)
+-- the bytes of the last write of page a that happened, a block write taken as a write of each of its P pages, or 512 bytes of 255
+abbrev pub lastWrite : Shape → List Event → ℕ → List ℕ
+lastWrite s es a = lastFrom s es a (replicate 512 255)
 
 -- ---- the counts of demand 3
 
@@ -135,38 +143,58 @@ lastWrite es a = lastFrom es a (replicate 512 255)
 abbrev pub Tells : Reply → Type 0
 Tells r = (programsOf (r .answer) ≡ programs (r .steps)) × (erasesOf (r .answer) ≡ erases (r .steps))
 
+-- a write or block write
 abbrev pub isWrite : Command → Bool
 isWrite (read a buffer) = false
 isWrite (write a d cut) = true
+isWrite (blockWrite l d cut) = true
 isWrite (powerUp table cut) = false
 
--- a write answered 0 or 8
+-- a write or block write answered 0 or 8
 abbrev pub doneOrCut : Event → Bool
 doneOrCut e = isWrite (e .command) && (answered 0 (e .reply) || answered 8 (e .reply))
 
--- a write answered 8
+-- a write or block write answered 8
 abbrev pub wasCut : Event → Bool
 wasCut e = isWrite (e .command) && answered 8 (e .reply)
 
-abbrev pub howMany : (Event → Bool) → List Event → ℕ
-howMany p [] = 0
-howMany p (e ∷ es) = cond (p e) 1 0 + howMany p es
+-- how many writes a command is taken as: a block write as P
+abbrev pub worth : ℕ → Command → ℕ
+worth P (read a buffer) = 0
+worth P (write a d cut) = 1
+worth P (blockWrite l d cut) = P
+worth P (powerUp table cut) = 0
 
--- the erases among the steps done by writes and power-ups. (A read has none.)
+-- those of an event: of a write or block write answered 0 or 8
+abbrev pub writesOf : ℕ → Event → ℕ
+writesOf P e = cond (doneOrCut e) (worth P (e .command)) 0
+
+-- n: those of all events
+abbrev pub writesIn : ℕ → List Event → ℕ
+writesIn P [] = 0
+writesIn P (e ∷ es) = writesOf P e + writesIn P es
+
+-- c: those answered 8, a block write as one cut
+abbrev pub cutsIn : List Event → ℕ
+cutsIn [] = 0
+cutsIn (e ∷ es) = cond (wasCut e) 1 0 + cutsIn es
+
+-- the erases among the steps done by writes, block writes and power-ups. (A read has none.)
 abbrev pub erasesIn : List Event → ℕ
 erasesIn [] = 0
 erasesIn (e ∷ es) = erases (e .reply .steps) + erasesIn es
 
--- the page of a write; of other commands it is never asked
-abbrev pub pageOfWrite : Command → ℕ
-pageOfWrite (read a buffer) = a
-pageOfWrite (write a d cut) = a
-pageOfWrite (powerUp table cut) = 0
+-- the logical block of a write or block write; of other commands it is never asked
+abbrev pub blockWritten : Shape → Command → ℕ
+blockWritten s (read a buffer) = 0
+blockWritten s (write a d cut) = blockOf s a
+blockWritten s (blockWrite l d cut) = l
+blockWritten s (powerUp table cut) = 0
 
 -- those writes, all n, fall in logical blocks that S marks
 abbrev pub FallIn : Shape → (ℕ → Bool) → List Event → Type 0
 FallIn s S [] = Unit {0}
-FallIn s S (e ∷ es) = (T (doneOrCut e) → T (S (blockOf s (pageOfWrite (e .command))))) × FallIn s S es
+FallIn s S (e ∷ es) = (T (doneOrCut e) → T (S (blockWritten s (e .command)))) × FallIn s S es
 
 -- ---- all steps done, the format's first
 

@@ -1,7 +1,7 @@
 -- Lists of steps done to an image, cut anywhere: what holds before and after each step, and that each is allowed.
-use mathlib.Core.Path.{_≡_, refl, subst}
+use mathlib.Core.Path.{_≡_, refl, ap, subst}
 use mathlib.Core.List.{List, [], _∷_, _++_, map}
-use Prim.Native.Nat.{ℕ, zero, suc, _+_, _/_, _<_}
+use Prim.Native.Nat.{ℕ, zero, suc, _+_, _/_, _≤_, _<_}
 use native.Mathlib.Omega.{arith}
 use native.Mathlib.Nat.{le-refl}
 use lib.ListN.{length, take}
@@ -51,6 +51,16 @@ programs-append (erase b ∷ ts) us = programs-append ts us
 pub programs-erases : (xs : List ℕ) → programs (map erase xs) ≡ 0
 programs-erases [] = refl
 programs-erases (x ∷ xs) = programs-erases xs
+
+pub programs-take : (k : ℕ) (ts : List Step) → programs (take k ts) ≤ programs ts
+programs-take zero ts = omega arith
+programs-take (suc k) [] = omega arith
+programs-take (suc k) (program p d u ∷ ts) = omega (arith, programs-take k ts)
+programs-take (suc k) (erase b ∷ ts) = programs-take k ts
+
+pub erases-erases : (xs : List ℕ) → erases (map erase xs) ≡ length xs
+erases-erases [] = refl
+erases-erases (x ∷ xs) = ap suc (erases-erases xs)
 
 -- ---- along a list
 

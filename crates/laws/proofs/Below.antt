@@ -438,6 +438,9 @@ found-distinct b =
       | inr n ↦ rw (is-false (isNone b) (ne→eqb b none n)) (tt, tt)
     ]
 
+pub found-few : (b : ℕ) → length (ifAny b) ≤ 1
+found-few b = cond-both (λ xs. length xs ≤ 1) (isNone b) [] (b ∷ []) (λ t. omega arith) (λ t. omega arith)
+
 -- what differs from all of found b, and is a block, differs from b
 pub found-out : (b j : ℕ) → j ≢ none → All (λ x. j ≢ x) (ifAny b) → j ≢ b
 found-out b j h a e =

@@ -64,7 +64,7 @@ module _ (s : Shape) (fb n l : ℕ) (page : ℕ → List ℕ) where
   copies-programs (suc m) =
       ap programs (listBelow-suc m (copyStep s fb n l page)) ∙ omega (arith, programs-append (first m) (copyStep s fb n l page m ∷ []), copies-programs m)
 
-  copied-next : (m : ℕ) (im : Image) → copied (suc m) im ≡ stepDone s (copyStep s fb n l page m) (copied m im)
+  pub copied-next : (m : ℕ) (im : Image) → copied (suc m) im ≡ stepDone s (copyStep s fb n l page m) (copied m im)
   unfolding stepsDone
   copied-next m im =
       ap (λ (ts : List Step). stepsDone s ts im) (listBelow-suc m (copyStep s fb n l page))
@@ -115,11 +115,11 @@ module _ (s : Shape) (fb n l : ℕ) (page : ℕ → List ℕ) where
         }
 
     -- what holds after each of them holds along the list
-    pub copies-along : (I : ℕ → Image → Type 0) → ((m : ℕ) → m ≤ s .pages → I 0 (copied m im)) → (m : ℕ) → m ≤ s .pages → Along s I 0 (first m) im
+    pub copies-along : (I : ℕ → Image → Type 0) (m : ℕ) → m ≤ s .pages → ((k : ℕ) → k ≤ m → I 0 (copied k im)) → Along s I 0 (first m) im
     unfolding stepsDone listBelow
-    copies-along I f zero h = f 0 h
-    copies-along I f (suc m) h =
+    copies-along I zero h f = f 0 (omega arith)
+    copies-along I (suc m) h f =
         let last : Along s I 0 (copyStep s fb n l page m ∷ []) (copied m im) =
-        (f m (omega arith), copies-is m (omega arith) .next (omega arith), subst (I 0) (copied-next m im) (f (suc m) h)) in
-        along-append s I 0 (first m) (copyStep s fb n l page m ∷ []) im (copies-along I f m (omega arith))
+        (f m (omega arith), copies-is m (omega arith) .next (omega arith), subst (I 0) (copied-next m im) (f (suc m) (le-refl (suc m)))) in
+        along-append s I 0 (first m) (copyStep s fb n l page m ∷ []) im (copies-along I m (omega arith) (λ k q. f k (omega arith)))
         (subst (λ (e : ℕ). Along s I e (copyStep s fb n l page m ∷ []) (copied m im)) (omega (arith, copies-erases m)) last)

@@ -2,32 +2,32 @@
 use mathlib.Core.Path.{_≡_, refl, sym, ap, _∙_, subst}
 use mathlib.Core.Logic.{_≢_, _⊎_, inl, inr}
 use mathlib.Core.Bool.{true, cond}
-use mathlib.Core.List.{List, _++_, map}
-use Prim.Native.Nat.{ℕ, zero, suc, _+_, _≤_, _<_}
+use mathlib.Core.List.{List, [], _∷_, _++_, map, append-assoc}
+use Prim.Native.Nat.{ℕ, zero, suc, _+_, _-_, _≤_, _<_}
 use native.Mathlib.Omega.{arith}
 use native.Mathlib.Nat.{le-refl}
-use lib.ListN.{length}
+use lib.ListN.{length, length-append}
 use lib.Dec.{T, eqb}
 use borrow.Author.Tests.{eq-eqb, ne-eqb}
 use Rattle.rules.specs.declared.shape.Shape.{Shape}
 use Rattle.rules.specs.declared.block.Block.{Block}
-use Rattle.rules.specs.Below.{none, ifAny, countBelow, listBelow}
+use Rattle.rules.specs.Below.{none, ifAny, countBelow}
 use Rattle.rules.specs.Spare.{numberLimit, logKind, copyKind}
 use Rattle.rules.specs.Shape.{pageNo, blockOf, offsetOf}
 use Rattle.rules.specs.Page.{Image, pageBytes}
 use Rattle.rules.specs.WellFormed.{Blocks, isFree, isUsed, isComplete, isData, isLive, isObsolete, dataBlock, liveLog, blocksOf}
 use Rattle.rules.specs.Content.{content}
-use Rattle.rules.specs.Steps.{Step, erase, stepsDone, erases, programs, taken, highest, newNumber, copies, copyStep, renewal}
-use Rattle.laws.proofs.Tests.{dec-eq, dec-lt}
-use Rattle.laws.proofs.Below.{All, all-append, all-left, all-right, distinct-append, found-all, found-distinct, found-out, countBelow-one, countBelow-two}
+use Rattle.rules.specs.Steps.{Step, erase, stepDone, stepsDone, erases, programs, taken, highest, newNumber, copies, copyStep, renewal}
+use Rattle.laws.proofs.Tests.{dec-eq}
+use Rattle.laws.proofs.Below.{All, all-append, all-left, all-right, distinct-append, found-all, found-distinct, found-few, found-out, countBelow-one, countBelow-two, listBelow-suc}
 use Rattle.laws.proofs.Shape.{offsetOf-below}
 use Rattle.laws.proofs.Pages.{stepsDone-append}
 use Rattle.laws.proofs.Filled.{usedWith}
 use Rattle.laws.proofs.Roles.{free-not-used, used-below, below-none, none-filled, complete-i, complete-e, obsolete-e, data-used, live-used, data-not-live, dataNumber-below, WellFormed, has-some, dataBlock-found, liveLog-found, dataBlock-is, liveLog-none, Recovered, highest-ge, highest-le, taken-free}
 use Rattle.laws.proofs.Change.{changed, changed-same, changed-other, changed-elim, Fitting, NoLive, LiveIs, goodBlocks-kept, obsolete-other, below-obsolete, Idle, Quiet, quiet, Completed, complete, complete-obsolete}
 use Rattle.laws.proofs.Content.{content-data}
-use Rattle.laws.proofs.Along.{Along, erases-append, programs-append, programs-erases, along-append, along-end, along-map}
-use Rattle.laws.proofs.Copy.{first, copied, copyRecord, copyRecord-filled, copyRecord-some, copies-erases, copies-programs, Copies, copies-is, copies-along}
+use Rattle.laws.proofs.Along.{Allowed, Along, erases-append, programs-append, programs-erases, erases-erases, along-append, along-end, along-map}
+use Rattle.laws.proofs.Copy.{first, copied, copyRecord, copyRecord-filled, copyRecord-some, copies-erases, copies-programs, copied-next, Copies, copies-is, copies-along}
 use Rattle.laws.proofs.Erasing.{Sound, logical-few, contentOf, content-kept, contents-kept, obsoletes, Erasing, erasing-start, liveIs-trans, erasing}
 
 -- the bytes of each logical page, those of l being page 0, page 1, ..
@@ -49,6 +49,26 @@ Before s im e im′ = Renewing s im (contentOf s im) e im′ × (e + obsoletes s
 -- from the last page on, l has no live log block
 abbrev pub After : Shape → Image → ℕ → (ℕ → List ℕ) → ℕ → Image → Type 0
 After s im l held e im′ = Renewing s im held e im′ × NoLive s (blocksOf s im′) l
+
+-- ---- its list: the pages but the last, the last, and the blocks that are erased then
+
+abbrev pub oldBlocks : Shape → Blocks → ℕ → List ℕ
+oldBlocks s c l = ifAny (liveLog s c l) ++ ifAny (dataBlock s c l)
+
+module _ (s : Shape) (c : Blocks) (l : ℕ) (page : ℕ → List ℕ) where
+  abbrev pub pagesFirst : List Step
+  pagesFirst = first s (taken s c) (newNumber s c) l page (s .pages - 1)
+
+  abbrev pub pageLast : Step
+  pageLast = copyStep s (taken s c) (newNumber s c) l page (s .pages - 1)
+
+  pub renewal-is : 0 < s .pages → renewal s c l page ≡ pagesFirst ++ (pageLast ∷ map erase (oldBlocks s c l))
+  unfolding renewal copies
+  renewal-is h =
+      let e : s .pages ≡ suc (s .pages - 1) = omega arith in
+      ap (λ (ts : List Step). ts ++ map erase (oldBlocks s c l))
+      (ap (first s (taken s c) (newNumber s c) l page) e ∙ listBelow-suc (s .pages - 1) (copyStep s (taken s c) (newNumber s c) l page))
+      ∙ append-assoc pagesFirst (pageLast ∷ []) (map erase (oldBlocks s c l))
 
 module _ (s : Shape) (im : Image) (w : Sound s im) (rec : Recovered s (blocksOf s im)) (l : ℕ) (hl : l < s .logical)
     (fit : newNumber s (blocksOf s im) ≤ numberLimit) (page : ℕ → List ℕ) (long : (o : ℕ) → o < s .pages → length (page o) ≡ 512) where
@@ -261,7 +281,7 @@ module _ (s : Shape) (im : Image) (w : Sound s im) (rec : Recovered s (blocksOf 
   data-old h = let y = has-some (dataBlock-found s c (w .wf .records) l) h in (y .passes, obsolete-old old (data-used s c old (y .passes)) (y .logical))
 
   abbrev out : List ℕ
-  out = ifAny log ++ ifAny old
+  out = oldBlocks s c l
 
   abbrev IsOld : ℕ → Type 0
   IsOld x = T (isObsolete s (blocksOf s im₂) x)
@@ -303,52 +323,82 @@ module _ (s : Shape) (im : Image) (w : Sound s im) (rec : Recovered s (blocksOf 
 
   -- ---- all of it
 
-  abbrev copyList : List Step
-  copyList = first s fb n l page (s .pages)
+  abbrev pre : List Step
+  pre = pagesFirst s c l page
 
-  abbrev list : List Step
-  list = copyList ++ map erase out
+  abbrev im₁ : Image
+  im₁ = stepDone s (pageLast s c l page) (stepsDone s pre im)
 
-  no-erases : erases copyList ≡ 0
-  no-erases = copies-erases s fb n l page (s .pages)
+  some : 0 < s .pages
+  some = omega (arith, w .fits .limits .pages-low)
+
+  -- the last page is the one after the first P - 1
+  im₂-is : im₂ ≡ im₁
+  im₂-is = let e : s .pages ≡ suc (s .pages - 1) = omega (arith, some) in ap after e ∙ copied-next s fb n l page (s .pages - 1) im
+
+  no-erases : 0 ≡ 0 + erases pre
+  no-erases = omega (arith, copies-erases s fb n l page (s .pages - 1))
+
+  -- what holds up to the last page, and what holds from it on
+  pub renewal-halves : (I J : ℕ → Image → Type 0) → ((e : ℕ) (im′ : Image) → Before s im e im′ → I e im′)
+      → ((e : ℕ) (im′ : Image) → After s im l held e im′ → J e im′)
+      → Along s I 0 pre im × Allowed s (pageLast s c l page) (stepsDone s pre im) × Along s J (0 + erases pre) (map erase out) im₁
+      × Recovered s (blocksOf s (stepsDone s (map erase out) im₁))
+  renewal-halves I J f h = (
+    copies-along s fb n l page im (w .fits) fb-below fr (omega arith) fit hl (logical-few s im w) long I (s .pages - 1) (omega arith)
+        (λ k q. f 0 (after k) (copying k (omega (arith, some)))),
+    renewal-made (s .pages - 1) (omega arith) .next (omega (arith, some)),
+    subst (λ (i : Image). Along s J (0 + erases pre) (map erase out) i) im₂-is
+        (subst (λ (e : ℕ). Along s J e (map erase out) im₂) no-erases
+        (along-map s (Erasing s im₂) J (λ e im′ i. h e im′ (erased-after e im′ i)) 0 (map erase out) im₂ (tail .0))),
+    subst (λ (i : Image). Recovered s (blocksOf s (stepsDone s (map erase out) i))) im₂-is ends-recovered,
+  )
 
   pub renewal-along : (I : ℕ → Image → Type 0) → ((e : ℕ) (im′ : Image) → Before s im e im′ → I e im′)
       → ((e : ℕ) (im′ : Image) → After s im l held e im′ → I e im′) → Along s I 0 (renewal s c l page) im
-  unfolding renewal copies
   renewal-along I f h =
-      along-append s I 0 copyList (map erase out) im
-      (copies-along s fb n l page im (w .fits) fb-below fr (omega arith) fit hl (logical-few s im w) long I at (s .pages) (le-refl (s .pages)))
-      (subst (λ (e : ℕ). Along s I e (map erase out) im₂) (omega (arith, no-erases))
-      (along-map s (Erasing s im₂) I (λ e im′ i. h e im′ (erased-after e im′ i)) 0 (map erase out) im₂ (tail .0)))
-    where
-      at : (m : ℕ) → m ≤ s .pages → I 0 (after m)
-      at m le =
-          elim (dec-lt m (s .pages)) [
-            | inl lt ↦ f 0 (after m) (copying m lt)
-            | inr ge ↦
-                let z : s .pages ≡ m = omega arith in
-                subst (λ (k : ℕ). I 0 (after k)) z (h 0 im₂ (erased-after 0 im₂ (erasing-start s im₂ sound₂)))
-          ]
+      let x = renewal-halves I I f h in
+      let e : 0 + erases pre ≡ 0 + erases pre + 0 = omega arith in
+      rw (renewal-is s c l page some)
+      (along-append s I 0 pre (pageLast s c l page ∷ map erase out) im (x .0)
+      (along-end s I 0 pre im (x .0), x .1, subst (λ (k : ℕ). Along s I k (map erase out) im₁) e (x .2)))
 
   pub renewal-end : After s im l held (0 + erases (renewal s c l page)) (stepsDone s (renewal s c l page) im)
       × Recovered s (blocksOf s (stepsDone s (renewal s c l page) im))
-  unfolding renewal copies
+  unfolding stepsDone
   renewal-end =
-      let end : Image = stepsDone s (map erase out) im₂ in
-      let e : 0 + erases (map erase out) ≡ 0 + erases list = omega (arith, erases-append copyList (map erase out), no-erases) in
-      subst (λ (i : Image). After s im l held (0 + erases list) i × Recovered s (blocksOf s i)) (sym (stepsDone-append s copyList (map erase out) im)) (
-        subst (λ (k : ℕ). After s im l held k end) e
-            (erased-after (0 + erases (map erase out)) end (along-end s (Erasing s im₂) 0 (map erase out) im₂ (tail .0))),
-        ends-recovered,
+      let x = renewal-halves (Before s im) (After s im l held) (λ e im′ r. r) (λ e im′ r. r) in
+      let y = along-end s (After s im l held) (0 + erases pre) (map erase out) im₁ (x .2) in
+      let e : 0 + erases pre + erases (map erase out) ≡ 0 + erases (pre ++ (pageLast s c l page ∷ map erase out)) =
+      omega (arith, erases-append pre (pageLast s c l page ∷ map erase out)) in
+      rw (renewal-is s c l page some, stepsDone-append s pre (pageLast s c l page ∷ map erase out) im)
+      (subst (λ (k : ℕ). After s im l held k (stepsDone s (map erase out) im₁)) e y, x .3)
+
+-- ---- its programs and erases, for any records
+
+module _ (s : Shape) (c : Blocks) (l : ℕ) (page : ℕ → List ℕ) where
+  abbrev pages : List Step
+  pages = first s (taken s c) (newNumber s c) l page (s .pages)
+
+  pub renewal-programs : programs (renewal s c l page) ≡ s .pages
+  unfolding renewal copies
+  renewal-programs =
+      omega (
+        arith,
+        programs-append pages (map erase (oldBlocks s c l)),
+        copies-programs s (taken s c) (newNumber s c) l page (s .pages),
+        programs-erases (oldBlocks s c l),
       )
 
-pub renewal-programs : (s : Shape) (c : Blocks) (l : ℕ) (page : ℕ → List ℕ) → programs (renewal s c l page) ≡ s .pages
-unfolding renewal copies
-renewal-programs s c l page =
-    omega (
-      arith,
-      programs-append (listBelow (s .pages) (copyStep s (taken s c) (newNumber s c) l page))
-          (map erase (ifAny (liveLog s c l) ++ ifAny (dataBlock s c l))),
-      copies-programs s (taken s c) (newNumber s c) l page (s .pages),
-      programs-erases (ifAny (liveLog s c l) ++ ifAny (dataBlock s c l)),
-    )
+  pub renewal-erases : erases (renewal s c l page) ≤ 2
+  unfolding renewal copies
+  renewal-erases =
+      omega (
+        arith,
+        erases-append pages (map erase (oldBlocks s c l)),
+        copies-erases s (taken s c) (newNumber s c) l page (s .pages),
+        erases-erases (oldBlocks s c l),
+        length-append (ifAny (liveLog s c l)) (ifAny (dataBlock s c l)),
+        found-few (liveLog s c l),
+        found-few (dataBlock s c l),
+      )

@@ -3,14 +3,15 @@
 -- A card just formatted has no log block and no data block: its first write merges nothing, and its first merges erase one block and not two. So
 -- `turns` stays 4 below the first limit, and `merges` 1 below the second.
 use mathlib.Core.Path.{_≡_, refl}
-use mathlib.Core.Bool.{_&&_, cond}
+use mathlib.Core.Bool.{Bool, false, cond}
 use mathlib.Core.List.{List, [], _∷_, map}
 use Prim.Native.Nat.{ℕ, _*_}
 use lib.ListN.{replicate}
+use Rattle.rules.specs.declared.shape.Shape.{Shape}
 use Rattle.rules.specs.Page.{Image}
 use Rattle.rules.specs.Computing.{computing}
-use Rattle.rules.specs.Replies.{number, programsOf, erasesOf, shapeFor, formatReply}
-use Rattle.history.specs.History.{Command, write, powerUp, Event, History, events, isWrite, pageOfWrite, howMany, doneOrCut, wasCut, erasesIn, happened, ownDone}
+use Rattle.rules.specs.Replies.{Reply, number, programsOf, erasesOf, shapeFor, formatReply}
+use Rattle.history.specs.History.{Command, read, write, blockWrite, powerUp, Event, History, shape, events, writesIn, cutsIn, erasesIn, happened, ownDone, blockHappened}
 
 -- ---- histories on an erased card of B blocks
 
@@ -31,21 +32,29 @@ put a k = write a (replicate 512 7) k
 abbrev whole : ℕ → Command
 whole a = put a 100
 
--- programs and erases of a command, and 1 if it is a write that has happened
-abbrev row : Event → List ℕ
-row e =
-    programsOf (e .reply .answer) ∷ erasesOf (e .reply .answer)
-    ∷ cond (isWrite (e .command) && happened (pageOfWrite (e .command)) (e .reply)) 1 0
-    ∷ []
+-- logical block l written, with 4 pages, and not cut
+abbrev wholeBlock : ℕ → Command
+wholeBlock l = blockWrite l (replicate 2048 7) 100
+
+-- a write or block write that has happened
+abbrev wrote : Shape → Command → Reply → Bool
+wrote s (read a buffer) r = false
+wrote s (write a d cut) r = happened a r
+wrote s (blockWrite l d cut) r = blockHappened s r
+wrote s (powerUp table cut) r = false
+
+-- programs and erases of a command, and 1 if it is such a one
+abbrev row : Shape → Event → List ℕ
+row s e = programsOf (e .reply .answer) ∷ erasesOf (e .reply .answer) ∷ cond (wrote s (e .command) (e .reply)) 1 0 ∷ []
 
 -- erases, n and c; then a row for each command
-abbrev table : List Event → List (List ℕ)
-table es = (erasesIn es ∷ howMany doneOrCut es ∷ howMany wasCut es ∷ []) ∷ map row es
+abbrev table : Shape → List Event → List (List ℕ)
+table s es = (erasesIn es ∷ writesIn (s .pages) es ∷ cutsIn es ∷ []) ∷ map (row s) es
 
 -- with all that it computes by
 computed : History → List (List ℕ)
-unfolding computing happened ownDone
-computed h = table (events h)
+unfolding computing happened ownDone blockHappened
+computed h = table (shape h) (events h)
 
 -- ---- 2n, and the limits of one write
 
@@ -90,3 +99,12 @@ unhappened : computed (card 5 2 1 4 formats-unhappened (whole 0 ∷ put 5 6 ∷ 
     ≡ (3 ∷ 4 ∷ 2 ∷ []) ∷ (1 ∷ 0 ∷ 1 ∷ []) ∷ (5 ∷ 1 ∷ 0 ∷ []) ∷ (1 ∷ 0 ∷ 1 ∷ []) ∷ (5 ∷ 2 ∷ 0 ∷ []) ∷ []
 unfolding computed
 unhappened = refl
+
+-- ---- a block write is taken as P writes
+
+-- One logical block: a block write, a write, and a block write, which has P programs and 2 erases. n is 9 and c is 0: the limit is 2 x floor(9 / 4), that
+-- is 4. If a block write were taken as one write, n would be 3 and the limit 0, and false.
+loads : computed (card 4 1 1 3 formats-merges (wholeBlock 0 ∷ whole 0 ∷ wholeBlock 0 ∷ []))
+    ≡ (2 ∷ 9 ∷ 0 ∷ []) ∷ (4 ∷ 0 ∷ 1 ∷ []) ∷ (1 ∷ 0 ∷ 1 ∷ []) ∷ (4 ∷ 2 ∷ 1 ∷ []) ∷ []
+unfolding computed
+loads = refl

@@ -15,7 +15,8 @@ use Rattle.roles.specs.declared.seats.Seats.{Seats}
 use Rattle.roles.specs.Passes.{eldestTo, censusTo, census, seats}
 use Rattle.roles.proofs.Seating.{seats-data, seats-log}
 use Rattle.plans.specs.declared.plan.Plan.{Plan}
-use Rattle.plans.specs.Plans.{unmerged, roomPlan, freeAfter, mergePlan, planOf}
+use Rattle.plans.specs.declared.renewal.Renewal.{Renewal}
+use Rattle.plans.specs.Plans.{renewalBy, renewalOf, unmerged, roomPlan, freeAfter, mergePlan, planOf}
 
 -- ---- the next page of a log block
 
@@ -43,19 +44,14 @@ module _ (s : Shape) (c : Blocks) {t : Census} (e : t ≡ census s c) where
   unfolding censusTo eldestTo victim
   victim-by f = ap (λ (y : Block). y .logical) f ∙ ap (λ (u : Census). c (u .eldest) .logical) e
 
-  pub merge-plan : (l : ℕ) {q : Seats} {b : ℕ} → q ≡ seats s c l → b ≡ freeAfter s c (t .free) (q .log) (q .«data»)
-      → _≡_ {A = Plan} (record {
-        needed = 2;
-        merged = l;
-        into = t .free;
-        log = q .log;
-        «data» = q .«data»;
-        block = b;
-        place = 0;
-        number = t .highest;
-        former = none;
-      }) (mergePlan s c l)
-  merge-plan l f g = rw (g, census-free, census-highest, seats-log s c l f, seats-data s c l f)
+  pub renewal-is : (l : ℕ) {q : Seats} → q ≡ seats s c l → renewalBy t l q ≡ renewalOf s c l
+  unfolding renewalOf
+  renewal-is l f = rw (census-free, census-highest, seats-log s c l f, seats-data s c l f)
+
+  pub merge-plan : (l : ℕ) {q : Seats} {x : Renewal} {b : ℕ} → q ≡ seats s c l → x ≡ renewalBy t l q
+      → b ≡ freeAfter s c (t .free) (q .log) (q .«data»)
+      → _≡_ {A = Plan} (record { needed = 2; merge = x; block = b; place = 0; number = t .highest; former = none }) (mergePlan s c l)
+  merge-plan l f e g = rw (g, e, renewal-is l f, census-free, census-highest, seats-log s c l f, seats-data s c l f)
 
 -- ---- which plan
 

@@ -8,17 +8,24 @@ use Rattle.rules.specs.Shape.{blockOf}
 use Rattle.rules.specs.WellFormed.{Blocks, dataBlock, liveLog}
 use Rattle.rules.specs.Steps.{taken, highest, Case, room, fresh, merging, writeCase}
 use Rattle.laws.specs.Foreseen.{completes, freeThen}
+use Rattle.roles.specs.declared.census.Census.{Census}
+use Rattle.roles.specs.declared.seats.Seats.{Seats}
 use Rattle.plans.specs.declared.plan.Plan.{Plan}
+use Rattle.plans.specs.declared.renewal.Renewal.{Renewal}
+
+-- logical block l made anew, by the census of the records and by its blocks
+abbrev pub renewalBy : Census → ℕ → Seats → Renewal
+renewalBy t l q = record { logical = l; into = t .free; log = q .log; «data» = q .«data»; highest = t .highest }
+
+unfoldable pub renewalOf : Shape → Blocks → ℕ → Renewal
+renewalOf s c l = record { logical = l; into = taken s c; log = liveLog s c l; «data» = dataBlock s c l; highest = highest s c }
 
 -- no merge comes first
 abbrev pub unmerged : ℕ → ℕ → ℕ → ℕ → ℕ → Plan
 unmerged needed block place number former =
     record {
       needed = needed;
-      merged = 0;
-      into = none;
-      log = none;
-      «data» = none;
+      merge = record { logical = 0; into = none; log = none; «data» = none; highest = 0 };
       block = block;
       place = place;
       number = number;
@@ -37,10 +44,7 @@ abbrev pub mergePlan : Shape → Blocks → ℕ → Plan
 mergePlan s c l =
     record {
       needed = 2;
-      merged = l;
-      into = taken s c;
-      log = liveLog s c l;
-      «data» = dataBlock s c l;
+      merge = renewalOf s c l;
       block = freeAfter s c (taken s c) (liveLog s c l) (dataBlock s c l);
       place = 0;
       number = highest s c;

@@ -10,6 +10,8 @@ ghost use Rattle.laws.specs.Foreseen.{freeThen};
 ghost use Rattle.words.specs.Words.{recordsIn};
 ghost use Rattle.roles.specs.Passes.{Recorded, Numbers, census, seats};
 ghost use Rattle.plans.specs.Plans.{unmerged, roomPlan, freeAfter, mergePlan, planOf};
+use super::renewal;
+use super::renewal::Renewal;
 use roles::census::Census;
 use roles::role;
 use roles::seats;
@@ -22,11 +24,8 @@ use rules::test;
 pub struct Plan {
     // new numbers needed: 0 with room in the log block, 1 with a fresh one, 2 after a merge
     pub needed: u32,
-    // the merge: its logical block, the block taken, its log block and its data block
-    pub merged: usize,
-    pub into: usize,
-    pub log: usize,
-    pub data: usize,
+    // the merge, if 2 are needed
+    pub merge: Renewal,
     // the block that gets the page, its place there, and the number to which `needed` is added
     pub block: usize,
     pub place: usize,
@@ -58,10 +57,13 @@ fn unmerged(needed: u32, block: usize, place: usize, number: u32, former: usize)
 {
     Plan {
         needed,
-        merged: 0,
-        into: role::NONE,
-        log: role::NONE,
-        data: role::NONE,
+        merge: Renewal {
+            logical: 0,
+            into: role::NONE,
+            log: role::NONE,
+            data: role::NONE,
+            highest: 0,
+        },
         block,
         place,
         number,
@@ -110,14 +112,10 @@ fn merge_first(s: Shape, list: &[u64; MOST], t: Census, l: usize, q: Seats) -> P
     requires { ⌜ Limits s × (t ≡ census s (recordsIn (now list))) × (q ≡ seats s (recordsIn (now list)) l) ⌝ }
     ensures { λ r. ⌜ r ≡ mergePlan s (recordsIn (now (list .entry))) l ⌝ }
 {
-    let into = t.free;
     Plan {
         needed: 2,
-        merged: l,
-        into,
-        log: q.log,
-        data: q.data,
-        block: free_after(s, list, into, q.log, q.data),
+        merge: renewal::by(t, l, q),
+        block: free_after(s, list, t.free, q.log, q.data),
         place: 0,
         number: t.highest,
         former: role::NONE,

@@ -1,8 +1,10 @@
 -- Laws of the refusals.
 use mathlib.Core.Path.{_≡_, refl, sym, ap, _∙_}
 use mathlib.Core.Bool.{Bool, true, false, not, _&&_}
-use Prim.Native.Nat.{ℕ, _*_, _/_, _%_}
+use mathlib.Core.List.{_++_}
+use Prim.Native.Nat.{ℕ, _*_, _/_, _%_, _<_}
 use native.Mathlib.Omega.{arith}
+use native.Mathlib.Nat.{div-add-mod', mul-div-cancel}
 use lib.Dec.{T, ltb, eqb, eqb→eq}
 use lib.ListN.{length}
 use borrow.Author.Tests.{not-false}
@@ -12,7 +14,7 @@ use Rattle.rules.specs.Page.{Image}
 use Rattle.rules.specs.Facts.{Within}
 use Rattle.rules.specs.WellFormed.{Blocks, blocksOf, wellFormed}
 use Rattle.rules.specs.Steps.{highest, writeCase, numbersNeeded}
-use Rattle.rules.specs.Replies.{firstRefusal, goodBlocks, tooFewGood, unless, powerUpRefusal, readRefusal, writeRefusal}
+use Rattle.rules.specs.Replies.{firstRefusal, goodBlocks, tooFewGood, unless, powerUpRefusal, readRefusal, writeRefusal, blockWriteRefusal}
 use Rattle.laws.proofs.Tests.{is-false, true-is, bool-ext, and-l, and-r, and-i, eq→eqb}
 use Rattle.laws.proofs.Shape.{withinLimits-within}
 use Rattle.laws.proofs.First.{first-none, first-append}
@@ -67,22 +69,35 @@ module _ (s : Shape) (im : Image) where
   unfolding powerUpRefusal openRefusal firstRefusal
   powerUp-order size = refl
 
+  -- 1 to 5, then 6 and 7
+  late-order : (sized ranged : Bool) (needed : ℕ) {n : ℕ} → n ≡ openRefusal s im sized ranged
+      → firstRefusal (openTests s im (blocksOf s im) sized ranged ++ lateTests (census s (blocksOf s im)) needed)
+      ≡ unless n n (lateRefusal (census s (blocksOf s im)) needed)
+  unfolding openRefusal
+  late-order sized ranged needed e =
+      first-append (openTests s im (blocksOf s im) sized ranged) (lateTests (census s (blocksOf s im)) needed) tt
+      ∙ ap (λ (k : ℕ). unless k k (lateRefusal (census s (blocksOf s im)) needed)) (sym e)
+
   pub write-order : (size a : ℕ) {n : ℕ} → n ≡ openRefusal s im (eqb size 512) (inRange s a)
       → writeRefusal s im (blocksOf s im) size a
       ≡ unless n n (lateRefusal (census s (blocksOf s im)) (numbersNeeded (writeCase s (blocksOf s im) (blockOf s a))))
-  unfolding writeRefusal openRefusal censusTo highest
-  write-order size a e =
-      let late : ℕ = lateRefusal (census s (blocksOf s im)) (numbersNeeded (writeCase s (blocksOf s im) (blockOf s a))) in
-      first-append (openTests s im (blocksOf s im) (eqb size 512) (inRange s a))
-      (lateTests (census s (blocksOf s im)) (numbersNeeded (writeCase s (blocksOf s im) (blockOf s a)))) tt
-      ∙ ap (λ (k : ℕ). unless k k late) (sym e)
+  unfolding writeRefusal censusTo highest
+  write-order size a e = late-order (eqb size 512) (inRange s a) (numbersNeeded (writeCase s (blocksOf s im) (blockOf s a))) e
 
--- ---- the table's length
+  pub blockWrite-order : (size l : ℕ) {n : ℕ} → n ≡ openRefusal s im (eqb size (s .pages * 512)) (ltb l (s .logical))
+      → blockWriteRefusal s im (blocksOf s im) size l ≡ unless n n (lateRefusal (census s (blocksOf s im)) 1)
+  unfolding blockWriteRefusal censusTo highest
+  blockWrite-order size l e = late-order (eqb size (s .pages * 512)) (ltb l (s .logical)) 1 e
 
-pub two-times : (n l : ℕ) → (eqb (n / 2) l && eqb (n % 2) 0) ≡ eqb n (2 * l)
-two-times n l =
-    bool-ext (eqb (n / 2) l && eqb (n % 2) 0) (eqb n (2 * l))
-    (λ t. eq→eqb n (2 * l) (let p : n / 2 ≡ l = eqb→eq (n / 2) l (and-l (eqb (n / 2) l) (eqb (n % 2) 0) t) in
-    let q : n % 2 ≡ 0 = eqb→eq (n % 2) 0 (and-r (eqb (n / 2) l) (eqb (n % 2) 0) t) in omega arith))
-    (λ t. let e : n ≡ 2 * l = eqb→eq n (2 * l) t in
-    and-i (eqb (n / 2) l) (eqb (n % 2) 0) (eq→eqb (n / 2) l (omega arith)) (eq→eqb (n % 2) 0 (omega arith)))
+-- ---- lengths
+
+pub times-by : (n m k : ℕ) → 0 < k → (eqb (n / k) m && eqb (n % k) 0) ≡ eqb n (m * k)
+times-by n m k some =
+    bool-ext (eqb (n / k) m && eqb (n % k) 0) (eqb n (m * k))
+    (λ t. eq→eqb n (m * k) (let p : n / k ≡ m = eqb→eq (n / k) m (and-l (eqb (n / k) m) (eqb (n % k) 0) t) in
+    let q : n % k ≡ 0 = eqb→eq (n % k) 0 (and-r (eqb (n / k) m) (eqb (n % k) 0) t) in
+    omega (arith, div-add-mod' n k, ap (λ (i : ℕ). i * k) p, q)))
+    (λ t. let e : n ≡ m * k = eqb→eq n (m * k) t in
+    let p : n / k ≡ m = ap (λ (i : ℕ). i / k) e ∙ mul-div-cancel m some in
+    and-i (eqb (n / k) m) (eqb (n % k) 0) (eq→eqb (n / k) m p)
+    (eq→eqb (n % k) 0 (omega (arith, div-add-mod' n k, ap (λ (i : ℕ). i * k) p))))

@@ -1,4 +1,4 @@
--- What the five commands promise: the answer, and each buffer at exit, are the definitions' values of what came in.
+-- What the commands promise: the answer, and each buffer at exit, are the definitions' values of what came in.
 use mathlib.Core.Path.{_≡_}
 use mathlib.Core.List.{List}
 use Prim.Native.Nat.{ℕ, _*_, _<_}
@@ -9,7 +9,7 @@ use Rattle.rules.specs.declared.place.Place.the-variants.{At, Nowhere}
 use Rattle.rules.specs.declared.answer.Answer.{Answer}
 use Rattle.rules.specs.Page.{Image}
 use Rattle.rules.specs.Facts.{Fits}
-use Rattle.rules.specs.Replies.{Reply, shapeFor, imageLeft, formatReply, powerUpReply, writeReply, readReply, tableLeft, pageLeft, lentPage, lentBytes}
+use Rattle.rules.specs.Replies.{Reply, shapeFor, imageLeft, formatReply, powerUpReply, writeReply, blockWriteReply, readReply, tableLeft, pageLeft, lentPage, lentBytes}
 
 -- Every command is given P, L and K: what is promised of the card's shape s and its image im.
 abbrev pub given : ℕ → ℕ → ℕ → Image → (Shape → Image → Type 0) → Type 0
@@ -27,6 +27,9 @@ FormatDone s im cut r bytes spare = Replied s im (formatReply s im cut) r bytes 
 
 abbrev pub WriteDone : Shape → Image → ℕ → List ℕ → ℕ → Answer → List ℕ → List ℕ → Type 0
 WriteDone s im a page cut r bytes spare = Replied s im (writeReply s im a page cut) r bytes spare
+
+abbrev pub BlockWriteDone : Shape → Image → ℕ → List ℕ → ℕ → Answer → List ℕ → List ℕ → Type 0
+BlockWriteDone s im l block cut r bytes spare = Replied s im (blockWriteReply s im l block cut) r bytes spare
 
 pub record PowerUpDone (s : Shape) (im : Image) (old : List ℕ) (cut : ℕ) (r : Answer) (bytes spare table : List ℕ) : Type 0 where
   pub replied : Replied s im (powerUpReply s im (length old) cut) r bytes spare

@@ -15,7 +15,7 @@ use Rattle.rules.specs.Shape.{shapeOf, withinLimits, blockOf, inRange, g
 use Rattle.rules.specs.Page.{Image, pageBytes}
 use Rattle.rules.specs.WellFormed.{Blocks, blocksOf, isGood, isObsolete, dataBlock, liveLog, wellFormed}
 use Rattle.rules.specs.Content.{holder, content}
-use Rattle.rules.specs.Steps.{Step, stepsDone, programs, erases, highest, formatList, powerUpList, writeCase, numbersNeeded, writeList}
+use Rattle.rules.specs.Steps.{Step, stepsDone, programs, erases, highest, formatList, powerUpList, writeCase, numbersNeeded, writeList, blockWriteList}
 
 infix 70 _when_
 -- ---- the number, the programs and the erases of an answer
@@ -67,7 +67,7 @@ unrecovered s c = not (allBelow (s .blocks) (λ j. not (isObsolete s c j)))
 
 -- 7: highest number plus new numbers needed (0, 1 or 2) above 4,294,967,294
 abbrev pub outOfNumbers : Shape → Blocks → ℕ → Bool
-outOfNumbers s c l = ltb numberLimit (highest s c + numbersNeeded (writeCase s c l))
+outOfNumbers s c needed = ltb numberLimit (highest s c + needed)
 
 -- The tests of each command, in the order of the table.
 
@@ -96,16 +96,24 @@ readTests s im c size a =
     ∷ 5 when not (wellFormed s c)
     ∷ []
 
-abbrev pub writeTests : Shape → Image → Blocks → ℕ → ℕ → List Test
-writeTests s im c size a =
+-- write and block write; sized: the buffer has the length asked; ranged: the logical page or block is in range; needed: the new numbers
+abbrev pub writingTests : Shape → Image → Blocks → Bool → Bool → ℕ → List Test
+writingTests s im c sized ranged needed =
     1 when outsideLimits s im
-    ∷ 2 when not (eqb size 512)
-    ∷ 3 when not (inRange s a)
+    ∷ 2 when not sized
+    ∷ 3 when not ranged
     ∷ 4 when tooFewGood s c
     ∷ 5 when not (wellFormed s c)
     ∷ 6 when unrecovered s c
-    ∷ 7 when outOfNumbers s c (blockOf s a)
+    ∷ 7 when outOfNumbers s c needed
     ∷ []
+
+abbrev pub writeTests : Shape → Image → Blocks → ℕ → ℕ → List Test
+writeTests s im c size a = writingTests s im c (eqb size 512) (inRange s a) (numbersNeeded (writeCase s c (blockOf s a)))
+
+-- Checks are those of write, with 2 for a wrong buffer length and 3 for l not below L. It needs one new number.
+abbrev pub blockWriteTests : Shape → Image → Blocks → ℕ → ℕ → List Test
+blockWriteTests s im c size l = writingTests s im c (eqb size (s .pages * 512)) (ltb l (s .logical)) 1
 
 unfoldable pub formatRefusal : Shape → Image → Blocks → ℕ
 formatRefusal s im c = firstRefusal (formatTests s im c)
@@ -118,6 +126,9 @@ readRefusal s im c size a = firstRefusal (readTests s im c size a)
 
 unfoldable pub writeRefusal : Shape → Image → Blocks → ℕ → ℕ → ℕ
 writeRefusal s im c size a = firstRefusal (writeTests s im c size a)
+
+unfoldable pub blockWriteRefusal : Shape → Image → Blocks → ℕ → ℕ → ℕ
+blockWriteRefusal s im c size l = firstRefusal (blockWriteTests s im c size l)
 
 -- ---- the replies
 
@@ -162,6 +173,12 @@ writeReply s im a d cut =
     let c : Blocks = blocksOf s im in
     let n : ℕ = writeRefusal s im c (length d) a in
     unless n (refusedBy n) (carriedOut cut (writeList s im c a d))
+
+unfoldable pub blockWriteReply : Shape → Image → ℕ → List ℕ → ℕ → Reply
+blockWriteReply s im l d cut =
+    let c : Blocks = blocksOf s im in
+    let n : ℕ = blockWriteRefusal s im c (length d) l in
+    unless n (refusedBy n) (carriedOut cut (blockWriteList s c l d))
 
 unfoldable pub readReply : Shape → Image → ℕ → ℕ → Reply
 readReply s im size a =

@@ -8,7 +8,7 @@ use lib.Dec.{ltb}
 use lib.ListN.{replicate}
 use Rattle.rules.specs.declared.shape.Shape.{Shape}
 use Rattle.rules.specs.Below.{isNone, ifAny, highestBelow, firstBelow, lowestBelow, pickBelow, listBelow}
-use Rattle.rules.specs.Bytes.{replaced}
+use Rattle.rules.specs.Bytes.{part, replaced}
 use Rattle.rules.specs.Spare.{logKind, copyKind, spareBytes}
 use Rattle.rules.specs.Shape.{pageNo, blockOf, logicalPage}
 use Rattle.rules.specs.Page.{Image}
@@ -164,3 +164,14 @@ writeList s im c a d =
     let first : List Step = mergeFirst s im c k in
     let im′ : Image = stepsDone s first im in
     first ++ ownList s im′ (blocksOf s im′) k a d
+
+-- ---- block write
+
+-- the o-th 512 bytes of a block buffer
+abbrev pub partOf : List ℕ → ℕ → List ℕ
+partOf d o = part d (o * 512) 512
+
+-- Block write of logical block l: take a block, program its P pages in order with the P parts of the buffer d, kind copy; then erase l's live log block
+-- and then its data block, where they exist. So l is made anew with these bytes.
+unfoldable pub blockWriteList : Shape → Blocks → ℕ → List ℕ → List Step
+blockWriteList s c l d = renewal s c l (partOf d)

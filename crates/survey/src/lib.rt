@@ -29,7 +29,7 @@ fn refused(refusal: u8) -> Survey
 }
 
 // Fills the list with the record of each block as a word, and the numbers with those of the logical blocks' data blocks.
-// `sized` says that what is lent has the length asked, `ranged` that the logical page is in range.
+// `sized` says that what is lent has the length asked, `ranged` that the logical page or block is in range.
 pub fn of(
     bytes: &[u8],
     spare: &[u8],

@@ -1,3 +1,4 @@
 pub mod Rows
 pub mod Cases
 pub mod Rules
+pub mod BlockWrites

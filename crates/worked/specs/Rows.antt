@@ -1,9 +1,9 @@
 -- A row of worked cases: what a command is given, what it answers and does, and what is looked at afterwards.
 use mathlib.Core.Bool.{Bool, true, false, _&&_}
 use mathlib.Core.List.{List, [], _∷_, _++_}
-use Prim.Native.Nat.{ℕ, _+_, _*_}
+use Prim.Native.Nat.{ℕ, zero, suc, _+_, _*_}
 use lib.Dec.{eqb}
-use lib.ListN.{getD, replicate}
+use lib.ListN.{getD, replicate, take}
 use Rattle.rules.specs.declared.shape.Shape.{Shape}
 use Rattle.rules.specs.Bytes.{replaced}
 use Rattle.rules.specs.Spare.{spareBytes}
@@ -11,7 +11,7 @@ use Rattle.rules.specs.Page.{Image, pageBytes, pageSpare}
 use Rattle.rules.specs.Steps.{Step, program, erase, stepDone}
 use Rattle.rules.specs.declared.place.Place.{Place}
 use Rattle.rules.specs.declared.place.Place.the-variants.{At, Nowhere}
-use Rattle.rules.specs.Replies.{number, programsOf, erasesOf, shapeFor, Reply, imageLeft, formatReply, powerUpReply, writeReply, readReply, tableLeft, pageLeft, lentPage, lentBytes}
+use Rattle.rules.specs.Replies.{number, programsOf, erasesOf, shapeFor, Reply, imageLeft, formatReply, powerUpReply, writeReply, blockWriteReply, readReply, tableLeft, pageLeft, lentPage, lentBytes}
 
 -- P, L and K
 pub record Given : Type 0 where
@@ -25,6 +25,13 @@ pub data Mark : Type 0 where
   spareIs : ℕ → ℕ → ℕ → Mark
   dataIs : ℕ → ℕ → ℕ → Mark
 
+-- one page of a log block, of a copy
+abbrev pub log : ℕ → ℕ → ℕ → Mark
+log i n a = entry i n 240 a
+
+abbrev pub copy : ℕ → ℕ → ℕ → Mark
+copy i n a = entry i n 15 a
+
 pub data Start : Type 0 where
   -- the image that was left 0, 1, .. rows ago
   left : ℕ → Start
@@ -33,12 +40,14 @@ pub data Start : Type 0 where
   -- a data image of so many pages and a spare image of so many, each byte of them v, which comes first
   plain : ℕ → ℕ → ℕ → Start
 
--- a command, its cut number last; a write is of page a with n bytes v, a read of page a with a buffer of n bytes
+-- a command, its cut number last; a write is of page a with n bytes v, a read of page a with a buffer of n bytes; a block write is of logical block l
+-- with n bytes: 512 of v, 512 of v + 1, ..
 pub data Call : Type 0 where
   format : ℕ → Call
   powerUp : ℕ → ℕ → Call
   read : ℕ → ℕ → Call
   write : ℕ → ℕ → ℕ → ℕ → Call
+  blockWrite : ℕ → ℕ → ℕ → ℕ → Call
 
 -- a step done: page p programmed, block b erased
 pub data Did : Type 0 where
@@ -102,11 +111,17 @@ imageAt g old (left k) = getD old k (blank 0 0)
 imageAt g old (chip P B ms) = marked (shapeIn g (blank P B)) ms (blank P B)
 imageAt g old (plain v n m) = pagesOf v n m
 
+-- so many pages: of bytes v, of bytes v + 1, ..
+abbrev pub pagesFrom : ℕ → ℕ → List ℕ
+pagesFrom zero v = []
+pagesFrom (suc n) v = replicate 512 v ++ pagesFrom n (suc v)
+
 abbrev pub replyTo : Shape → Image → Call → Reply
 replyTo s im (format cut) = formatReply s im cut
 replyTo s im (powerUp size cut) = powerUpReply s im size cut
 replyTo s im (read a n) = readReply s im n a
 replyTo s im (write a n v cut) = writeReply s im a (replicate n v) cut
+replyTo s im (blockWrite l n v cut) = blockWriteReply s im l (take n (pagesFrom 4 v)) cut
 
 abbrev pub didSteps : List Step → List Did → Bool
 didSteps [] [] = true
@@ -130,12 +145,14 @@ gotBy s im (format cut) v = false
 gotBy s im (powerUp size cut) v = false
 gotBy s im (read a n) v = same (pageLeft s im (replicate n 7) a) (replicate n v)
 gotBy s im (write a n w cut) v = false
+gotBy s im (blockWrite l n w cut) v = false
 
 abbrev pub filledBy : Shape → Image → Call → List ℕ → Bool
 filledBy s im (format cut) t = false
 filledBy s im (powerUp size cut) t = same (tableLeft s im (replicate size 7) cut) t
 filledBy s im (read a n) t = false
 filledBy s im (write a n v cut) t = false
+filledBy s im (blockWrite l n v cut) t = false
 
 -- after the call the image old is im
 abbrev pub seen : Shape → Image → Call → Image → Look → Bool

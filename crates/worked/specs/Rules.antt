@@ -1,7 +1,7 @@
 -- What document 01's own cases leave unseen: each of W1 to W7 broken, each role, each refusal and their order.
 use mathlib.Core.List.{List, [], _∷_, _++_}
 use Prim.Native.Nat.{ℕ}
-use Rattle.worked.specs.Rows.{Mark, entry, spareIs, dataIs, Start, left, chip, plain, Call, format, powerUp, read, write, Did, p, e, Look, reads, bytes, spare, table, lent, unlent, filled, unchanged, Row}
+use Rattle.worked.specs.Rows.{Mark, entry, spareIs, dataIs, log, copy, Start, left, chip, plain, Call, format, powerUp, read, write, Did, p, e, Look, reads, bytes, spare, table, lent, unlent, filled, unchanged, Row}
 
 -- P 2, L 2; K 1 and B 4, or K 2 and B 5. Page p holds 512 bytes 100 + p where it is marked. A cut number of 9 cuts nothing.
 abbrev row : ℕ → Start → Call → ℕ → ℕ → ℕ → List Did → List Look → Row
@@ -27,13 +27,6 @@ shaped P L K n a = lengths 255 P L K n n a
 -- n pages of which every block is bad: 4 within the limits
 abbrev allBad : ℕ → ℕ → ℕ → Row
 allBad P n a = lengths 0 P 1 1 n n a
-
--- one page of a log block, of a copy
-abbrev log : ℕ → ℕ → ℕ → Mark
-log i n a = entry i n 240 a
-
-abbrev copy : ℕ → ℕ → ℕ → Mark
-copy i n a = entry i n 15 a
 
 -- logical block 0: a data block of number 5 in block 0
 abbrev base : List Mark

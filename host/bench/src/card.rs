@@ -9,8 +9,10 @@ pub const L: usize = 59;
 pub const K: usize = 4;
 pub const SHAPE: Shape = Shape { pages: P, logical: L, logs: K };
 
-/// A page of a logical block without a log block.
-pub const IN_DATA_BLOCK: usize = 20 * P + 7;
+/// A logical block with a data block and without a log block.
+pub const WITHOUT_LOG: usize = 20;
+/// A page of it.
+pub const IN_DATA_BLOCK: usize = WITHOUT_LOG * P + 7;
 /// A page that the log block of logical block 0 holds.
 pub const IN_LOG_BLOCK: usize = 3;
 /// A page of logical block 0, whose log block has room.
@@ -19,6 +21,9 @@ pub const TO_LOG_BLOCK: usize = 5;
 pub const COMPLETES: usize = 2 * P - 1;
 /// A page of logical block 2, whose log block is full.
 pub const MERGES: usize = 2 * P + 9;
+
+/// What is written as a logical block.
+pub static BLOCK: [u8; P * DATA_BYTES] = [7; P * DATA_BYTES];
 
 /// A data image and a spare image.
 #[derive(Clone, PartialEq)]

@@ -1,6 +1,6 @@
 //! The commands that are timed, done by the proved layer or by the second program.
 
-use crate::card::{Image, DATA_BYTES, K, L, P, SHAPE};
+use crate::card::{Image, BLOCK, DATA_BYTES, K, L, P, SHAPE};
 use std::ops::Add;
 
 pub enum Command {
@@ -9,6 +9,7 @@ pub enum Command {
     Read(usize),
     Lend(usize),
     Write(usize),
+    BlockWrite(usize),
 }
 
 /// What was done: by this it is seen that both do the same.
@@ -48,6 +49,7 @@ pub fn by_proved(command: &Command, image: &mut Image) -> Done {
             card.read_into(*number, &mut page).map(|()| Steps::default())
         }
         Command::Write(number) => card.write(*number, &page, None),
+        Command::BlockWrite(number) => card.block_write(*number, &BLOCK, None),
         Command::Lend(number) => {
             assert!(card.lend(*number).is_some());
             return Done::default();
@@ -58,7 +60,7 @@ pub fn by_proved(command: &Command, image: &mut Image) -> Done {
 }
 
 pub fn by_second(command: &Command, image: &mut Image) -> Done {
-    use second::{format, lend, power_up, read, write};
+    use second::{block_write, format, lend, power_up, read, write};
     const NO_CUT: usize = usize::MAX;
     let Image { data, spare } = image;
     let mut page = [7; DATA_BYTES];
@@ -71,6 +73,7 @@ pub fn by_second(command: &Command, image: &mut Image) -> Done {
             read(data, spare, &mut page, SHAPE, *number)
         }
         Command::Write(number) => write(data, spare, &page, SHAPE, *number, NO_CUT),
+        Command::BlockWrite(number) => block_write(data, spare, &BLOCK, SHAPE, *number, NO_CUT),
         Command::Lend(number) => {
             assert!(lend(data, spare, SHAPE, *number).is_some());
             return Done::default();

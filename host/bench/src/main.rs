@@ -5,7 +5,9 @@
 //! time of each counts, since other work on the machine can only add to it. As the
 //! floor stands the time of moving the bytes that must move: of the pages programmed
 //! or read out, and of the blocks erased. The look at the image that every command
-//! takes is no part of the floor; what it takes at least is said below the table.
+//! takes is no part of the floor; what it takes at least is said below the table. The
+//! block write stands beside single writes of the same pages, in order, from the same
+//! image.
 
 #![forbid(unsafe_code)]
 
@@ -37,13 +39,26 @@ fn main() {
     println!();
     println!("{:<34}{:>11}{:>11}{:>8}{:>11}", "", "proved", "second", "ratio", "floor");
     for (name, image, commands) in cases {
-        let Times { proved, second, floor } = measure::least(image, &commands);
-        let ratio = proved / second;
-        println!("{name:<34}{proved:>11.2}{second:>11.2}{ratio:>8.2}{floor:>11.2}");
+        row(name, image, &commands);
     }
+    let l = card::WITHOUT_LOG;
+    let block = row("block write", &worn, &[Command::BlockWrite(l)]);
+    let pages: Vec<Command> = (l * card::P..(l + 1) * card::P).map(Command::Write).collect();
+    let writes = row("32 writes of the same block", &worn, &pages);
     let spare = measure::look_at(&worn.spare);
     let all = spare + measure::look_at(&worn.data);
     println!();
     println!("The ratio is that of proved to second. A look at every spare byte takes {spare:.2},");
     println!("at every byte {all:.2}.");
+    let ratio = block / writes;
+    println!("The block that is written has a data block and no log block. By a block write this");
+    println!("takes {ratio:.3} of the time of 32 writes of its pages in order, both proved.");
+}
+
+/// Times commands on an image and prints their row; gives the time of the proved layer.
+fn row(name: &str, image: &Image, commands: &[Command]) -> f64 {
+    let Times { proved, second, floor } = measure::least(image, commands);
+    let ratio = proved / second;
+    println!("{name:<34}{proved:>11.2}{second:>11.2}{ratio:>8.2}{floor:>11.2}");
+    proved
 }

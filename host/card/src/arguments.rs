@@ -18,6 +18,7 @@ pub enum Request {
     PowerUp { store: Store, shape: Shape, cut: Option<usize>, json: bool },
     Read { store: Store, number: usize, to: Place, shape: Shape, hex: bool, force: bool },
     Write { store: Store, number: usize, from: Place, shape: Shape, cut: Option<usize> },
+    Load { store: Store, number: usize, from: Place, shape: Shape, cut: Option<usize>, pad: bool },
     Lend { store: Store, number: usize, shape: Shape },
     Show { store: Store, shape: Shape, json: bool },
     Check { store: Store, number: usize, shape: Shape, json: bool },
@@ -73,7 +74,7 @@ fn request(verb: Verb, given: &mut Given) -> Result<Request, Failure> {
             blocks: given.needed("--blocks")?,
             bad: given.every(REPEATED)?,
         }),
-        Verb::Format | Verb::PowerUp | Verb::Write | Verb::Restore | Verb::Renew => {
+        Verb::Format | Verb::PowerUp | Verb::Write | Verb::Load | Verb::Restore | Verb::Renew => {
             change(verb, given)
         }
         Verb::Split => {
@@ -112,6 +113,13 @@ fn change(verb: Verb, given: &mut Given) -> Result<Request, Failure> {
             let from = given.file_or_stream();
             one_input(&store, &from)?;
             Request::Write { store, number, from, shape: given.shape()?, cut: cut(given)? }
+        }
+        Verb::Load => {
+            let number = given.block_number()?;
+            let from = given.file()?;
+            one_input(&store, &from)?;
+            let (shape, cut, pad) = (given.shape()?, cut(given)?, given.flag("--pad"));
+            Request::Load { store, number, from, shape, cut, pad }
         }
         Verb::Restore => {
             let from = given.file()?;
@@ -171,7 +179,7 @@ fn read_out(verb: Verb, store: Store, given: &mut Given) -> Result<Request, Fail
 
 fn one_input(store: &Store, from: &Place) -> Result<(), Failure> {
     if store.is_stream() && *from == Place::Stream {
-        return Err(usage("the image and the page cannot both be standard input"));
+        return Err(usage("the image and FILE cannot both be standard input"));
     }
     Ok(())
 }

@@ -11,7 +11,7 @@ use crate::inspect;
 use crate::json::Json;
 use crate::paint::Paint;
 use crate::shapes;
-use crate::words::{count, Asked};
+use crate::words::{count, Asked, Subject};
 use hamutsigra::{Answer, Refusal, Shape, Steps, DATA_BYTES};
 use second::block::{Block, Used};
 use second::blocks::{Blocks, Role};
@@ -44,11 +44,16 @@ struct Reasons {
 }
 
 pub fn check(image: &Image, number: usize, shape: Shape) -> Checked<'_> {
-    let verbs = [Verb::Format, Verb::PowerUp, Verb::Read, Verb::Write];
-    let answered = verbs.map(|verb| {
-        let asked = Asked { verb, image, shape, number };
-        let answer = attempt(&asked);
-        (asked, answer)
+    let page = Subject::Page(number);
+    let commands = [
+        (Verb::Format, Subject::Card),
+        (Verb::PowerUp, Subject::Card),
+        (Verb::Read, page),
+        (Verb::Write, page),
+    ];
+    let answered = commands.map(|(verb, subject)| {
+        let answer = attempt(verb, image, number, shape);
+        (Asked { verb, image, shape, subject }, answer)
     });
     // Without a card there are no blocks to speak of; the answer says it all.
     let reasons = inspect::card(image, shape).map(|card| Reasons::of(&card));
@@ -57,8 +62,7 @@ pub fn check(image: &Image, number: usize, shape: Shape) -> Checked<'_> {
 }
 
 /// What a command answers, tried on a copy.
-fn attempt(asked: &Asked) -> Answer {
-    let Asked { verb, image, shape, number } = *asked;
+fn attempt(verb: Verb, image: &Image, number: usize, shape: Shape) -> Answer {
     let mut copy = image.clone();
     let mut card = copy.card_mut(shape);
     match verb {
@@ -126,8 +130,8 @@ fn number(answer: &Answer) -> u8 {
 }
 
 fn in_words((asked, answer): &Answered) -> String {
-    let command = match asked.verb {
-        Verb::Read | Verb::Write => format!("{} {}", asked.verb.name(), asked.number),
+    let command = match asked.subject {
+        Subject::Page(number) => format!("{} {number}", asked.verb.name()),
         _ => asked.verb.name().to_string(),
     };
     match answer {
@@ -212,7 +216,7 @@ fn origin(card: &Card, used: &Used) -> &'static str {
     match used.kind {
         _ if used.is_complete(card.shape.pages) => "a data block that has been replaced",
         Kind::Copy => "a copy that was not finished",
-        Kind::Log => "a log block that has been merged",
+        Kind::Log => "a log block that has been merged or replaced",
     }
 }
 

@@ -7,9 +7,9 @@ use crate::help::Verb;
 use crate::image::Image;
 use crate::shapes;
 use crate::store::Store;
-use crate::whole::{self, Dumped, Refused, Written};
-use crate::words::Asked;
-use hamutsigra::{raw, Refusal, Shape, Steps, TableEntry, DATA_BYTES, SPARE_BYTES};
+use crate::whole::{self, Dumped, Written};
+use crate::words::{Asked, Refused, Subject};
+use hamutsigra::{raw, Answer, Refusal, Shape, Steps, TableEntry, DATA_BYTES, SPARE_BYTES};
 use second::shape::{BLOCKS, PAGES};
 use second::spare::STATUS;
 
@@ -34,7 +34,8 @@ pub fn new(store: &Store, pages: usize, blocks: usize, bad: &[usize]) -> Result<
 
 pub fn format(store: &Store, shape: Shape, cut: Option<usize>) -> Result<Steps, Failure> {
     change(store, Verb::Format, shape, |image| {
-        image.card_mut(shape).format(cut).map_err(at(0)).map(|steps| (steps, ()))
+        let steps = image.card_mut(shape).format(cut).map_err(Subject::Card.refused())?;
+        Ok((steps, ()))
     })
     .map(|(steps, ())| steps)
 }
@@ -47,12 +48,11 @@ pub fn power_up(
 ) -> Result<(Steps, Vec<TableEntry>), Failure> {
     change(store, Verb::PowerUp, shape, |image| {
         let mut table = table(shape);
-        let steps = image.card_mut(shape).power_up(&mut table, cut).map_err(at(0))?;
-        Ok((steps, table))
+        let answer = image.card_mut(shape).power_up(&mut table, cut);
+        Ok((answer.map_err(Subject::Card.refused())?, table))
     })
 }
 
-/// Gives as well what makes P doubtful, if anything does.
 pub fn write(
     store: &Store,
     number: usize,
@@ -60,14 +60,38 @@ pub fn write(
     shape: Shape,
     cut: Option<usize>,
 ) -> Result<(Steps, Option<String>), Failure> {
-    change(store, Verb::Write, shape, |image| {
+    put(store, Verb::Write, shape, Subject::Page(number), |image| match page.try_into() {
+        Ok(page) => image.card_mut(shape).write(number, page, cut),
+        // The layer says whether the shape comes first.
+        Err(_) => raw::write(&mut image.data, &mut image.spare, page, shape, number, 0),
+    })
+}
+
+/// Writes a whole block.
+pub fn load(
+    store: &Store,
+    number: usize,
+    block: &[u8],
+    shape: Shape,
+    cut: Option<usize>,
+) -> Result<(Steps, Option<String>), Failure> {
+    let subject = Subject::Block { number, bytes: block.len() };
+    put(store, Verb::Load, shape, subject, |image| {
+        image.card_mut(shape).block_write(number, block, cut)
+    })
+}
+
+/// Writes to a stored image. Gives as well what makes P doubtful, if anything does.
+fn put(
+    store: &Store,
+    verb: Verb,
+    shape: Shape,
+    subject: Subject,
+    command: impl FnOnce(&mut Image) -> Answer,
+) -> Result<(Steps, Option<String>), Failure> {
+    change(store, verb, shape, |image| {
         let doubt = shapes::doubt(image, shape);
-        let steps = match page.try_into() {
-            Ok(page) => image.card_mut(shape).write(number, page, cut),
-            // The layer says whether the shape comes first.
-            Err(_) => raw::write(&mut image.data, &mut image.spare, page, shape, number, 0),
-        };
-        Ok((steps.map_err(at(number))?, doubt))
+        Ok((command(image).map_err(subject.refused())?, doubt))
     })
 }
 
@@ -92,8 +116,8 @@ pub fn renew(store: &Store, shape: Shape) -> Result<Written, Failure> {
 
 pub fn dump(store: &Store, shape: Shape, pages: Pages) -> Result<Dumped, Failure> {
     let image = store.load()?;
-    whole::dump(&image, shape, pages).map_err(|Refused { number, refusal }| {
-        Asked { verb: Verb::Dump, image: &image, shape, number }.refused(refusal)
+    whole::dump(&image, shape, pages).map_err(|Refused { subject, refusal }| {
+        Asked { verb: Verb::Dump, image: &image, shape, subject }.refused(refusal)
     })
 }
 
@@ -118,7 +142,7 @@ pub fn table(shape: Shape) -> Vec<TableEntry> {
 }
 
 fn read_page(image: &Image, number: usize, shape: Shape) -> Result<[u8; DATA_BYTES], Failure> {
-    let asked = Asked { verb: Verb::Read, image, shape, number };
+    let asked = Asked { verb: Verb::Read, image, shape, subject: Subject::Page(number) };
     image.card(shape).read(number).map_err(|refusal| asked.refused(refusal))
 }
 
@@ -143,11 +167,7 @@ fn change<T>(
             store.finish()?;
         }
     }
-    answer.map_err(|Refused { number, refusal }| {
-        Asked { verb, image: &opened.image, shape, number }.refused(refusal)
+    answer.map_err(|Refused { subject, refusal }| {
+        Asked { verb, image: &opened.image, shape, subject }.refused(refusal)
     })
-}
-
-fn at(number: usize) -> impl Fn(Refusal) -> Refused {
-    move |refusal| Refused { number, refusal }
 }

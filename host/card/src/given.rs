@@ -24,7 +24,7 @@ const OPTIONS: [(&str, Option<&str>); 10] = [
 ];
 
 /// The options without a value.
-const FLAGS: [&str; 4] = ["--hex", "--force", "--json", "--doubtful"];
+const FLAGS: [&str; 5] = ["--hex", "--force", "--json", "--doubtful", "--pad"];
 
 /// The option that may be given more than once.
 pub const REPEATED: &str = "--bad";
@@ -133,13 +133,21 @@ impl Given {
         self.words.pop_front().map_or(Place::Stream, place)
     }
 
-    /// The number that the next word is.
     pub fn page_number(&mut self) -> Result<usize, Failure> {
         self.page_number_if_any()?.ok_or_else(|| usage("no page is given"))
     }
 
     pub fn page_number_if_any(&mut self) -> Result<Option<usize>, Failure> {
-        self.words.pop_front().map(|word| number("PAGE", &word)).transpose()
+        self.next_number("PAGE")
+    }
+
+    pub fn block_number(&mut self) -> Result<usize, Failure> {
+        self.next_number("BLOCK")?.ok_or_else(|| usage("no block is given"))
+    }
+
+    /// The number that the next word is.
+    fn next_number(&mut self, name: &str) -> Result<Option<usize>, Failure> {
+        self.words.pop_front().map(|word| number(name, &word)).transpose()
     }
 
     pub fn shape(&mut self) -> Result<Shape, Failure> {

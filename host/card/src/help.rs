@@ -11,6 +11,7 @@ pub enum Verb {
     PowerUp,
     Read,
     Write,
+    Load,
     Lend,
     Show,
     Check,
@@ -40,7 +41,7 @@ pub struct About {
 }
 
 /// All verbs, in the order in which help has them.
-pub const VERBS: [About; 19] = [
+pub const VERBS: [About; 20] = [
     about(Verb::New, "new", "IMAGE -P P -B B [--bad BLOCK]..", "make an erased chip", texts::NEW),
     about(Verb::Format, "format", "IMAGE SHAPE [--cut N]", "make an empty card", texts::FORMAT),
     about(
@@ -63,6 +64,13 @@ pub const VERBS: [About; 19] = [
         "IMAGE PAGE [FILE] SHAPE [--cut N]",
         "write a logical page",
         texts::WRITE,
+    ),
+    about(
+        Verb::Load,
+        "load",
+        "IMAGE BLOCK FILE SHAPE [--cut N]",
+        "write a logical block, all or none",
+        texts::LOAD,
     ),
     about(Verb::Lend, "lend", "IMAGE PAGE SHAPE", "say where a page lies", texts::LEND),
     about(Verb::Show, "show", "IMAGE SHAPE [--json]", "draw a map of the chip", texts::SHOW),

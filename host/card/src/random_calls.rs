@@ -2,8 +2,10 @@
 //! spoilt or junk: none panics. (Files are another matter: see the tests of the tool.)
 
 use crate::arguments::{self, Pages};
+use crate::help::Verb;
 use crate::image::Image;
 use crate::paint::Paint;
+use crate::words::{count, Asked, Subject};
 use crate::{check, diff, flash, inspect, map, salvage, shapes, whole};
 use hamutsigra::Shape;
 use std::ffi::OsString;
@@ -16,9 +18,9 @@ mod random;
 use random::Random;
 
 const WORDS: &str =
-    "new format power-up read write lend show check dump restore renew salvage raw \
+    "new format power-up read write load lend show check dump restore renew salvage raw \
                      shape diff split join demo help a.img - -- 0 7 -P4 -L -K=1 --logs=1 --data \
-                     --spare=s --json --force --doubtful --from --to=3 --bad=1 -é";
+                     --spare=s --json --force --doubtful --pad --from --to=3 --bad=1 -é";
 
 impl Random {
     fn number(&mut self) -> usize {
@@ -73,7 +75,7 @@ impl Random {
 fn call(random: &mut Random, image: &mut Image, other: &Image) -> bool {
     let (shape, number) = (random.shape(), random.number());
     let card = inspect::card(image, shape);
-    let text = match random.below(12) {
+    let text = match random.below(13) {
         0 => check::check(image, number, shape).in_words(Paint::Colour),
         1 => check::check(image, number, shape).to_json().to_string(),
         2 => card.map_or(String::new(), |card| map::draw_with_summary(&card, Paint::Plain)),
@@ -95,6 +97,14 @@ fn call(random: &mut Random, image: &mut Image, other: &Image) -> bool {
             let pages = [[random.one_of(&[3, 255]); 512]; 2];
             let restored = whole::restore(image, shape, random.number(), &pages);
             restored.map_or(String::new(), |_| "done".into())
+        }
+        11 => {
+            let bytes = random.one_of(&[0, 1, 512, 1024, 1536, 1536, 1536, 2048]);
+            let cut = random.one_of(&[None, Some(2), Some(3)]);
+            let answer = image.card_mut(shape).block_write(number, &vec![4; bytes], cut);
+            let subject = Subject::Block { number, bytes };
+            let asked = Asked { verb: Verb::Load, image, shape, subject };
+            answer.map_or_else(|refusal| asked.meaning(refusal) + asked.remedy(refusal), count)
         }
         _ => whole::renew(image, shape).map_or(String::new(), |_| "done".into()),
     };

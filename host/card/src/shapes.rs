@@ -1,5 +1,5 @@
-//! The shapes under which an image is well-formed: `shape`, and what `check` and
-//! `write` say of a P that the image does not confirm.
+//! The shapes under which an image is well-formed: `shape`, and what `check`, `write`
+//! and `load` say of a P that the image does not confirm.
 
 use crate::image::Image;
 use crate::inspect;

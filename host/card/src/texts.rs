@@ -48,6 +48,15 @@ the image is too empty to tell a wrong P.
   --cut N            pull the card out after N steps
 ";
 
+pub const LOAD: &str = "\
+Writes the P x 512 bytes of FILE as logical block BLOCK, all or none: after a cut the
+block is the old one or the new one. FILE has exactly so many bytes; with - they come
+from standard input. Says so if the image is too empty to tell a wrong P.
+
+  --cut N            pull the card out after N steps
+  --pad              fill a shorter FILE up with bytes of 255
+";
+
 pub const LEND: &str = "\
 Says where the content of logical page PAGE lies: its block, its page there, and the
 byte of the image at which it starts.
@@ -187,8 +196,8 @@ only with --force, which leaves the others as they are.
 pub const STATUS: &str = "
 Exit status: 0 all done; 1 to 8 the answer with which the card refuses
   1 shape or image length outside the limits   5 the image is not well-formed
-  2 page not 512 bytes long                    6 an obsolete block exists
-  3 logical page out of range                  7 the sequence numbers do not suffice
+  2 page not 512, block not P x 512 bytes      6 an obsolete block exists
+  3 logical page or block out of range         7 the sequence numbers do not suffice
   4 too few good blocks                        8 pulled out by --cut
 9 (diff) the two differ; and of the tool itself:
   64 wrong arguments

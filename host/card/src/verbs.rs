@@ -20,9 +20,10 @@ use crate::salvage;
 use crate::shapes;
 use crate::store::{Place, Store};
 use crate::stream::say;
-use crate::words::{count, Asked};
+use crate::words::{count, Asked, Subject};
 use hamutsigra::{Refusal, Shape, Steps, TableEntry, DATA_BYTES, SPARE_BYTES};
 use second::card::Card;
+use second::shape::PAGES;
 use std::collections::BTreeSet;
 
 /// One byte more than a page, to tell a page that is too long.
@@ -60,6 +61,7 @@ fn done(request: Request) -> Result<(), Failure> {
         | Request::Format { .. }
         | Request::PowerUp { .. }
         | Request::Write { .. }
+        | Request::Load { .. }
         | Request::Restore { .. }
         | Request::Renew { .. } => change(request),
         Request::Split { dump, pair } => convert(&dump, &pair),
@@ -89,9 +91,14 @@ fn change(request: Request) -> Result<(), Failure> {
             // Before the image is opened: the page may come from another command
             // that is still at work on it.
             let page = from.read(MOST_OF_A_PAGE)?;
-            let (steps, doubt) = commands::write(&store, number, &page, shape, cut)?;
-            let doubt = doubt.map_or(String::new(), |doubt| format!("{doubt}\n"));
-            report(&store, &format!("write of page {number}: {}\n{doubt}", count(steps)))
+            let done = commands::write(&store, number, &page, shape, cut)?;
+            report(&store, &written(&format!("write of page {number}"), done))
+        }
+        Request::Load { store, number, from, shape, cut, pad } => {
+            // Before the image is opened, as for a write.
+            let block = block_from(&from, shape, pad)?;
+            let done = commands::load(&store, number, &block, shape, cut)?;
+            report(&store, &written(&format!("load of logical block {number}"), done))
         }
         Request::Restore { store, from, shape, pages } => restore(&store, &from, shape, pages),
         Request::Renew { store, shape } => {
@@ -132,6 +139,22 @@ fn made(store: &Store, pages: usize, blocks: usize, bad: &[usize]) -> String {
     let bad: Vec<String> = bad.iter().map(|block| format!(", block {block} bad")).collect();
     let name = store.name_written();
     format!("{name}: {blocks} blocks of {pages} pages, erased, {bytes} bytes{}\n", bad.concat())
+}
+
+/// What was written, and what makes P doubtful.
+fn written(what: &str, (steps, doubt): (Steps, Option<String>)) -> String {
+    let doubt = doubt.map_or(String::new(), |doubt| format!("{doubt}\n"));
+    format!("{what}: {}\n{doubt}", count(steps))
+}
+
+/// The bytes for a block, all that there are, so that their length can be said. They
+/// are filled up if that is asked for, and P is one of a card: else the layer says so.
+fn block_from(from: &Place, shape: Shape, pad: bool) -> Result<Vec<u8>, Failure> {
+    let mut block = from.read(MOST_BYTES + 1)?;
+    if pad && PAGES.contains(&shape.pages) {
+        block.resize(block.len().max(shape.pages * DATA_BYTES), 255);
+    }
+    Ok(block)
 }
 
 /// The table of power-up, a line for each logical block.
@@ -200,7 +223,7 @@ fn salvage(
     let image = store.load()?;
     let card = card(&image, shape, Verb::Salvage)?;
     if card.shape.good_blocks_needed() > card.blocks as u128 {
-        let asked = Asked { verb: Verb::Salvage, image: &image, shape, number: 0 };
+        let asked = Asked { verb: Verb::Salvage, image: &image, shape, subject: Subject::Card };
         return Err(asked.refused(Refusal::TooFewBlocks));
     }
     let pages = salvage::salvage(&card);
@@ -235,8 +258,9 @@ fn show(store: &Store, shape: Shape, json: bool) -> Result<(), Failure> {
 
 /// The card to look at, or answer 1.
 fn card(image: &Image, shape: Shape, verb: Verb) -> Result<Card<'_>, Failure> {
-    inspect::card(image, shape)
-        .ok_or_else(|| Asked { verb, image, shape, number: 0 }.refused(Refusal::OutsideLimits))
+    inspect::card(image, shape).ok_or_else(|| {
+        Asked { verb, image, shape, subject: Subject::Card }.refused(Refusal::OutsideLimits)
+    })
 }
 
 fn raw(store: &Store, page: usize, pages: Option<usize>) -> Result<(), Failure> {

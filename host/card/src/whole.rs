@@ -3,14 +3,9 @@
 use crate::arguments::Pages;
 use crate::image::Image;
 use crate::progress::Progress;
+use crate::words::{Refused, Subject};
 use hamutsigra::{Refusal, Shape, Steps, DATA_BYTES};
 use std::ops::RangeInclusive;
-
-/// A refusal, and the page at which it was given.
-pub struct Refused {
-    pub number: usize,
-    pub refusal: Refusal,
-}
 
 /// Pages read out.
 pub struct Dumped {
@@ -66,7 +61,7 @@ pub fn renew(image: &mut Image, shape: Shape) -> Result<Written, Refused> {
     let card = image.card(shape);
     let held = pages.filter_map(|number| card.lend(number).map(|lent| (number, *lent.bytes)));
     let held: Vec<(usize, [u8; DATA_BYTES])> = held.collect();
-    let formatted = image.card_mut(shape).format(None).map_err(at(0))?;
+    let formatted = image.card_mut(shape).format(None).map_err(Subject::Card.refused())?;
     let renewed = write(image, shape, "renew", held.into_iter())?;
     let steps = sum(formatted, renewed.steps);
     Ok(Written { steps, left: in_all - renewed.written, ..renewed })
@@ -107,7 +102,7 @@ fn in_range(image: &Image, shape: Shape, pages: Pages) -> Result<RangeInclusive<
 }
 
 fn at(number: usize) -> impl Fn(Refusal) -> Refused {
-    move |refusal| Refused { number, refusal }
+    Subject::Page(number).refused()
 }
 
 fn sum(one: Steps, other: Steps) -> Steps {

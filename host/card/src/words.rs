@@ -1,6 +1,7 @@
 //! The answers of the card in words: what a refusal means, and what to do.
 
 use crate::failure::Failure;
+use crate::files::MOST_BYTES;
 use crate::help::Verb;
 use crate::image::Image;
 use crate::inspect;
@@ -12,8 +13,31 @@ pub struct Asked<'a> {
     pub verb: Verb,
     pub image: &'a Image,
     pub shape: Shape,
-    /// The logical page; 0 for a command that has none.
-    pub number: usize,
+    pub subject: Subject,
+}
+
+/// What a command is about.
+#[derive(Clone, Copy, Debug, PartialEq, Eq)]
+pub enum Subject {
+    /// The card as a whole.
+    Card,
+    /// A logical page.
+    Page(usize),
+    /// A logical block, for which so many bytes are given.
+    Block { number: usize, bytes: usize },
+}
+
+/// A refusal, and what the command was about.
+pub struct Refused {
+    pub subject: Subject,
+    pub refusal: Refusal,
+}
+
+impl Subject {
+    /// Makes a refusal one of a command about this.
+    pub fn refused(self) -> impl Fn(Refusal) -> Refused {
+        move |refusal| Refused { subject: self, refusal }
+    }
 }
 
 impl Asked<'_> {
@@ -26,7 +50,7 @@ impl Asked<'_> {
 
     /// What a refusal means, in a sentence.
     pub fn meaning(&self, refusal: Refusal) -> String {
-        let Shape { pages, logical, .. } = self.shape;
+        let logical = self.shape.logical;
         match refusal {
             Refusal::OutsideLimits => {
                 let limit = self.limit();
@@ -35,18 +59,15 @@ impl Asked<'_> {
             Refusal::WrongBuffer if self.verb == Verb::PowerUp => {
                 format!("there is no table for as many as {logical} logical blocks")
             }
-            Refusal::WrongBuffer => "the page is not 512 bytes long".into(),
-            Refusal::OutOfRange => {
-                // L is any number, so that the product may need a wider one.
-                let last = logical as u128 * pages as u128 - 1;
-                format!("page {} is out of range: the card has pages 0 to {last}", self.number)
-            }
+            Refusal::WrongBuffer => self.wrong_length(),
+            Refusal::OutOfRange => self.out_of_range(),
             Refusal::TooFewBlocks => self.good_blocks(),
             Refusal::IllFormed => "the image is not well-formed".into(),
             Refusal::NeedsPowerUp => "an obsolete block exists, as after a cut".into(),
             Refusal::OutOfNumbers => "the sequence numbers that are left do not suffice".into(),
             Refusal::Cut(steps) => {
-                format!("the card was pulled out after {}, before the last step", count(steps))
+                let (count, left) = (count(steps), self.left_by_a_cut(steps));
+                format!("the card was pulled out after {count}, before the last step{left}")
             }
         }
     }
@@ -56,8 +77,17 @@ impl Asked<'_> {
         match refusal {
             Refusal::OutsideLimits => "Check -P, -L and -K, and that the whole chip was read",
             Refusal::WrongBuffer if self.verb == Verb::PowerUp => "Check -L",
-            Refusal::WrongBuffer => "Give exactly 512 bytes",
-            Refusal::OutOfRange => "Check the page, -P and -L",
+            Refusal::WrongBuffer => match self.subject {
+                Subject::Block { bytes, .. } if bytes < self.shape.pages * DATA_BYTES => {
+                    "Give exactly so many bytes, or --pad to fill up with 255"
+                }
+                Subject::Block { .. } => "Give exactly so many bytes",
+                _ => "Give exactly 512 bytes",
+            },
+            Refusal::OutOfRange => match self.subject {
+                Subject::Block { .. } => "Check the block and -L",
+                _ => "Check the page, -P and -L",
+            },
             Refusal::TooFewBlocks => {
                 "Check -P, -L and -K. If they are right, take another chip, or a smaller L or K"
             }
@@ -77,6 +107,46 @@ impl Asked<'_> {
             }
             Refusal::Cut(_) if self.verb == Verb::Format => "Run `card format` again",
             Refusal::Cut(_) => "Run `card power-up`",
+        }
+    }
+
+    /// How long what is given is, and must be.
+    fn wrong_length(&self) -> String {
+        let Subject::Block { bytes, .. } = self.subject else {
+            return "the page is not 512 bytes long".into();
+        };
+        // 2 is given only where 1 does not apply, so that P is within its limits.
+        let whole = self.shape.pages * DATA_BYTES;
+        let more = if bytes as u64 > MOST_BYTES { "more than " } else { "" };
+        let bytes = MOST_BYTES.min(bytes as u64);
+        format!("the block is {more}{bytes} bytes long, and must be {whole}, P x {DATA_BYTES}")
+    }
+
+    /// What the card has not, and what it has.
+    fn out_of_range(&self) -> String {
+        let Shape { pages, logical, .. } = self.shape;
+        match self.subject {
+            Subject::Block { number, .. } => {
+                let last = logical - 1;
+                format!("logical block {number} is out of range: the card has 0 to {last}")
+            }
+            Subject::Page(number) => {
+                // L is any number, so that the product may need a wider one.
+                let last = logical as u128 * pages as u128 - 1;
+                format!("page {number} is out of range: the card has pages 0 to {last}")
+            }
+            Subject::Card => Refusal::OutOfRange.to_string(),
+        }
+    }
+
+    /// What is to be said of a block that is written all or none.
+    fn left_by_a_cut(&self, steps: Steps) -> &'static str {
+        match self.subject {
+            Subject::Block { .. } if steps.programs as usize == self.shape.pages => {
+                "; the block is the new one already"
+            }
+            Subject::Block { .. } => "; the block is still the old one",
+            _ => "",
         }
     }
 

@@ -34,6 +34,14 @@ fn wrong_arguments_are_said_to_be_wrong() {
         ("read card.img 1 -P 4 -L 2 -K 1 --cut 1", "does not take --cut"),
         ("read card.img 1 card.img -P 4 -L 2 -K 1", "this is the image itself"),
         ("write card.img 1 page more -P 4 -L 2 -K 1", "has no use for more"),
+        ("write card.img 1 page -P 4 -L 2 -K 1 --pad", "write does not take --pad"),
+        ("load card.img -P 4 -L 2 -K 1", "no block is given"),
+        ("load card.img one block -P 4 -L 2 -K 1", "BLOCK is a number from 0"),
+        ("load card.img 1 -P 4 -L 2 -K 1", "no file is given"),
+        ("load card.img 1 block more -P 4 -L 2 -K 1", "has no use for more"),
+        ("load card.img 1 block -P 4 -L 2", "-K, --logs is not given"),
+        ("load card.img 1 block -P 4 -L 2 -K 1 --json", "does not take --json"),
+        ("load - 1 - -P 4 -L 2 -K 1", "the image and FILE cannot both be standard input"),
         ("lend card.img 1 2 -P 4 -L 2 -K 1", "has no use for 2"),
         ("show --data card.img -P 4 -L 2 -K 1", "given together"),
         ("show --spare card.img -P 4 -L 2 -K 1", "given together"),
@@ -90,8 +98,8 @@ fn wrong_arguments_are_said_to_be_wrong() {
 fn each_verb_has_help() {
     let folder = Folder::new();
     let verbs = [
-        "new", "format", "power-up", "read", "write", "lend", "show", "check", "dump", "restore",
-        "renew", "salvage", "raw", "shape", "diff", "split", "join", "demo",
+        "new", "format", "power-up", "read", "write", "load", "lend", "show", "check", "dump",
+        "restore", "renew", "salvage", "raw", "shape", "diff", "split", "join", "demo",
     ];
     for verb in verbs {
         let run = folder.card(&format!("{verb} --help"));
@@ -121,7 +129,7 @@ fn the_manual_page_is_made_of_the_same_text() {
         manual.starts_with(".TH CARD 1 \"\" \"card 1.0.0\" \"Hamutsigra\"\n.SH NAME\ncard \\- ")
     );
     let plain = manual.replace("\\-", "-").replace("\\&", "").replace("\\e", "\\");
-    for verb in ["new", "salvage", "diff", "join"] {
+    for verb in ["new", "load", "salvage", "diff", "join"] {
         let help = folder.card(&format!("help {verb}")).text;
         for line in help.lines() {
             assert!(plain.contains(line), "{line:?} is missing");

@@ -9,11 +9,15 @@ use std::os::unix::process::CommandExt;
 use std::process::Command;
 
 /// All verbs that take the image of a card.
-const VERBS: [&str; 7] = ["format", "power-up", "read", "write", "lend", "show", "check"];
+const VERBS: [&str; 8] = ["format", "power-up", "read", "write", "load", "lend", "show", "check"];
 
 fn line(verb: &str, image: &str) -> String {
-    let page = if ["read", "write", "lend"].contains(&verb) { "0" } else { "" };
-    format!("{verb} {image} {page} {SHAPE_ARGUMENTS}")
+    let rest = match verb {
+        "read" | "write" | "lend" => "0",
+        "load" => "0 -",
+        _ => "",
+    };
+    format!("{verb} {image} {rest} {SHAPE_ARGUMENTS}")
 }
 
 #[test]
@@ -27,11 +31,13 @@ fn a_missing_file() {
 }
 
 #[test]
-fn a_missing_page_file() {
+fn a_missing_page_or_block_file() {
     let folder = Folder::with_card();
     let before = folder.state("card.img");
-    folder.on_card("write", "0 none").expect_failure(66, &["none: cannot be read"]);
-    folder.on_card("write", "0 .").expect_failure(66, &["it is a folder"]);
+    for verb in ["write", "load"] {
+        folder.on_card(verb, "0 none").expect_failure(66, &["none: cannot be read"]);
+        folder.on_card(verb, "0 .").expect_failure(66, &["it is a folder"]);
+    }
     assert_eq!(folder.state("card.img"), before);
 }
 

@@ -6,7 +6,7 @@ mod killer;
 
 use common::Folder;
 use killer::{killed_at, End};
-use std::collections::BTreeMap;
+use std::collections::{BTreeMap, BTreeSet};
 
 const PAIR: &str = "--data d --spare s -P 4 -L 2 -K 1";
 const DUMP: &str = "card.img -P 4 -L 2 -K 1";
@@ -124,6 +124,28 @@ fn a_write_to_a_dump() {
         set(&folder, &state);
         look_at_a_killed_write(&folder, DUMP);
         write_again(&folder, DUMP, &["card.img"]);
+    }
+}
+
+/// All pages of the block are old or all are new.
+#[test]
+fn a_load() {
+    for (image, names) in [(PAIR, &["d", "s"][..]), (DUMP, &["card.img"])] {
+        let folder = card(image);
+        let load = line("load", image, 1) + " -";
+        let pages = || [4, 5, 6, 7].map(|number| folder.card(&line("read", image, number)).out);
+        let mut kinds = BTreeSet::new();
+        for state in states(&folder, &load, &[15; 2048]) {
+            set(&folder, &state);
+            look_at_a_killed_write(&folder, image);
+            let [first, others @ ..] = pages();
+            assert!(others.iter().all(|page| *page == first));
+            kinds.insert(first);
+            folder.card_with_input(&load, &[15; 2048]).expect_done();
+            assert_eq!(pages(), [[15; 512]; 4]);
+            assert_eq!(folder.names(), names);
+        }
+        assert_eq!(kinds.len(), 2, "both old and new");
     }
 }
 

@@ -68,6 +68,17 @@ fn check_and_write_say_that_p_is_not_confirmed() {
 }
 
 #[test]
+fn load_says_so_too_and_confirms_p() {
+    let folder = Folder::with_card();
+    folder.write(1, 1, "").expect_done();
+    let run = folder.load(1, &[2; 2048], "");
+    let done = "load of logical block 1: 4 programs and 0 erases\n";
+    let said = "The image is too empty to tell a wrong P: it is as well-formed with -P 2.\n";
+    assert_eq!(run.expect_done().text, format!("{done}{said}"));
+    assert!(!folder.on_card("check", "").expect_done().text.contains("too empty"));
+}
+
+#[test]
 fn diff_says_what_differs() {
     let folder = after_case_8();
     std::fs::copy(folder.path("card.img"), folder.path("other.img")).expect("a copy");

@@ -36,6 +36,8 @@ fn every_verb_takes_a_pair() {
     assert_eq!(text, "page 2 is in block 1, page 2\ndata image: bytes 3072 to 3583\n");
     folder.card_with_input(&format!("write 4 --cut 5 {PAIR}"), &[15; 512]).expect_failure(8, &[]);
     folder.card(&format!("power-up {PAIR}")).expect_done();
+    folder.card_with_input(&format!("load 1 - {PAIR}"), &[9; 2048]).expect_done();
+    assert_eq!(folder.card(&format!("read 6 {PAIR}")).expect_done().out, [9; 512]);
     folder.card(&format!("format {PAIR}")).expect_done();
     assert_eq!((folder.bytes("d"), folder.bytes("s")), (vec![255; 8192], vec![255; 256]));
 }

@@ -27,6 +27,7 @@ fn the_tour_is_true() {
     let folder = Folder::new();
     folder.card("demo worked-card.img").expect_done();
     folder.put("page.bin", &[9; 512]);
+    folder.put("block.bin", &[8; 2048]);
     assert!(README.contains("; export CARD_SHAPE=4,2,1\n"));
     let card = |line: &str| {
         let mut command = Command::new(env!("CARGO_BIN_EXE_card"));
@@ -35,7 +36,7 @@ fn the_tour_is_true() {
     };
     let read = |page: usize| card(&format!("read worked-card.img {page}")).out;
     let tour = tour();
-    assert_eq!(tour.len(), 7);
+    assert_eq!(tour.len(), 8);
     for (command, shown) in tour {
         if command.starts_with("restore") {
             assert_eq!(read(4), [9; 512], "page 4 is the one written");
@@ -45,4 +46,5 @@ fn the_tour_is_true() {
         assert_eq!((run.error + &run.text).trim_end(), shown.trim_end(), "{command}");
     }
     assert_eq!(read(4), [20; 512], "page 4 is put back");
+    assert_eq!(read(0), [8; 512], "block 0 is the one loaded");
 }

@@ -48,6 +48,23 @@ fn the_page_comes_from_standard_input() {
 }
 
 #[test]
+fn a_block_is_loaded_on_the_way() {
+    let folder = Folder::after_case_4();
+    let image = folder.bytes("card.img");
+    folder.put("block", &[9; 2048]);
+    let line = format!("load - 1 block {SHAPE_ARGUMENTS}");
+    let loaded = folder.card_with_input(&line, &image);
+    let said = "load of logical block 1: 4 programs and 0 erases\n";
+    assert_eq!((loaded.status, loaded.error.as_str()), (0, said));
+    assert_eq!(folder.bytes("card.img"), image, "the stream alone is changed");
+    folder.load(1, &[9; 2048], "").expect_done();
+    assert_eq!(loaded.out, folder.bytes("card.img"));
+    // What is refused is not passed on.
+    folder.put("block", &[9; 2047]);
+    assert_eq!(folder.card_with_input(&line, &image).expect_failure(2, &[]).out, []);
+}
+
+#[test]
 fn a_cut_gives_the_image_and_a_refusal_gives_none() {
     let folder = Folder::after_case_4();
     folder.put("page", &[15; 512]);

@@ -2,7 +2,7 @@
 
 mod common;
 
-use common::{dump, Folder, DUMP_BYTES, PAGE_IN_DUMP, SHAPE};
+use common::{block, dump, Folder, DUMP_BYTES, PAGE_IN_DUMP, SHAPE};
 use hamutsigra::Card;
 
 #[test]
@@ -25,13 +25,19 @@ fn new_marks_bad_blocks() {
     folder.card("format card.img -P 4 -L 1 -K 1").expect_done();
 }
 
-#[test]
-fn write_does_to_the_file_what_the_layer_does_to_the_image() {
-    let folder = Folder::after_case_4();
+/// The small card after case 4 of document 01, by the layer itself.
+fn card_after_case_4() -> Card<Vec<u8>> {
     let mut card = Card::new(vec![255; 4 * 4 * 512], vec![255; 4 * 4 * 16], SHAPE);
     for (number, fill) in [(1, 10), (0, 11), (1, 12), (2, 13), (3, 14)] {
         card.write(number, &[fill; 512], None).expect("a write");
     }
+    card
+}
+
+#[test]
+fn write_does_to_the_file_what_the_layer_does_to_the_image() {
+    let folder = Folder::after_case_4();
+    let card = card_after_case_4();
     assert_eq!(folder.bytes("card.img"), dump(card.data(), card.spare()));
     let run = folder.write(4, 15, "");
     assert_eq!(run.expect_done().text, "write of page 4: 5 programs and 2 erases\n");
@@ -43,6 +49,54 @@ fn write_takes_a_page_from_a_file() {
     folder.put("page", &[9; 512]);
     folder.on_card("write", "5 page").expect_done();
     assert_eq!(folder.on_card("read", "5").expect_done().out, [9; 512]);
+}
+
+#[test]
+fn load_does_to_the_file_what_the_layer_does_to_the_image() {
+    let folder = Folder::after_case_4();
+    let mut card = card_after_case_4();
+    card.block_write(0, &block([21, 22, 23, 24]), None).expect("a block write");
+    folder.put("block", &block([21, 22, 23, 24]));
+    let run = folder.on_card("load", "0 block");
+    assert_eq!(run.expect_done().text, "load of logical block 0: 4 programs and 2 erases\n");
+    assert_eq!(folder.bytes("card.img"), dump(card.data(), card.spare()));
+    assert_eq!(folder.fills(0, 7), [21, 22, 23, 24, 255, 255, 255, 255]);
+    assert_eq!(folder.names(), ["block", "card.img"]);
+}
+
+#[test]
+fn load_is_all_or_none() {
+    let folder = Folder::after_case_4();
+    let image = folder.bytes("card.img");
+    for cut in 0..6 {
+        folder.put("card.img", &image);
+        let run = folder.load(0, &block([21, 22, 23, 24]), &format!("--cut {cut}"));
+        let (words, fills) = match cut {
+            0..4 => ("; the block is still the old one.", [11, 12, 13, 14]),
+            _ => ("; the block is the new one already.", [21, 22, 23, 24]),
+        };
+        run.expect_failure(8, &["before the last step", words, "Run `card power-up`"]);
+        assert_eq!(folder.fills(0, 3), fills, "cut at {cut}");
+        folder.on_card("power-up", "").expect_done();
+        assert_eq!(folder.fills(0, 7), [&fills[..], &[255; 4]].concat(), "cut at {cut}");
+        folder.load(1, &block([31, 32, 33, 34]), "").expect_done();
+    }
+}
+
+#[test]
+fn load_pads_if_asked_and_never_cuts() {
+    let folder = Folder::after_case_4();
+    for (bytes, fills) in
+        [(0, [255; 4]), (512, [9, 255, 255, 255]), (1536, [9, 9, 9, 255]), (2048, [9; 4])]
+    {
+        folder.load(1, &vec![9; bytes], "--pad").expect_done();
+        assert_eq!(folder.fills(4, 7), fills);
+    }
+    folder.load(1, &[7; 513], "--pad").expect_done();
+    assert_eq!(folder.on_card("read", "5").out, [&[7][..], &[255; 511]].concat());
+    let before = folder.state("card.img");
+    folder.load(1, &[9; 2049], "--pad").expect_failure(2, &["2049 bytes long", "must be 2048"]);
+    assert_eq!(folder.state("card.img"), before);
 }
 
 #[test]
@@ -240,7 +294,7 @@ fn check_says_why_a_card_needs_power_up() {
     assert!(run.text.contains("read 0     answers 0:"));
     assert!(run.text.contains("write 0    answers 6: an obsolete block exists"));
     assert!(run.text.ends_with("\n\nRun `card power-up` first.\n"));
-    assert!(run.text.contains("block 0: obsolete, a log block that has been merged\n"));
+    assert!(run.text.contains("block 0: obsolete, a log block that has been merged or replaced\n"));
     assert!(run.text.contains("block 1: obsolete, a data block that has been replaced\n"));
 }
 

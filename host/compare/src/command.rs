@@ -17,10 +17,11 @@ pub enum Action {
     PowerUp { cut: usize },
     Read { number: usize },
     Write { number: usize, cut: usize },
+    BlockWrite { number: usize, cut: usize },
     Lend { number: usize },
 }
 
-/// What is lent to a command. All four parts are there for every command, so that
+/// What is lent to a command. All five parts are there for every command, so that
 /// all are compared after it.
 #[derive(Clone, PartialEq)]
 pub struct Lent {
@@ -28,6 +29,7 @@ pub struct Lent {
     pub spare: Guarded<u8>,
     pub table: Guarded<u16>,
     pub page: Guarded<u8>,
+    pub block: Guarded<u8>,
 }
 
 /// What a command gives back.
@@ -47,6 +49,7 @@ impl Command {
             Action::Format { .. } => Action::Format { cut },
             Action::PowerUp { .. } => Action::PowerUp { cut },
             Action::Write { number, .. } => Action::Write { number, cut },
+            Action::BlockWrite { number, .. } => Action::BlockWrite { number, cut },
             action => action,
         };
         Command { action, ..self }
@@ -61,10 +64,14 @@ impl fmt::Display for Command {
             Action::PowerUp { .. } => write!(out, "power-up")?,
             Action::Read { number } => write!(out, "read of page {number}")?,
             Action::Write { number, .. } => write!(out, "write of page {number}")?,
+            Action::BlockWrite { number, .. } => write!(out, "block write of block {number}")?,
             Action::Lend { number } => write!(out, "lend of page {number}")?,
         }
         match self.action {
-            Action::Format { cut } | Action::PowerUp { cut } | Action::Write { cut, .. }
+            Action::Format { cut }
+            | Action::PowerUp { cut }
+            | Action::Write { cut, .. }
+            | Action::BlockWrite { cut, .. }
                 if cut != usize::MAX =>
             {
                 write!(out, ", cut at {cut}")?;
@@ -78,8 +85,9 @@ impl fmt::Display for Command {
 impl fmt::Display for Lent {
     fn fmt(&self, out: &mut fmt::Formatter) -> fmt::Result {
         let (data, spare) = (self.data.part().len(), self.spare.part().len());
-        let (table, page) = (self.table.part().len(), self.page.part().len());
-        write!(out, "{data} data and {spare} spare bytes, table of {table}, page of {page}")
+        let (page, block) = (self.page.part().len(), self.block.part().len());
+        write!(out, "{data} data and {spare} spare bytes, table of {}, ", self.table.part().len())?;
+        write!(out, "page of {page}, block of {block}")
     }
 }
 

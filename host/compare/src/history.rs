@@ -50,6 +50,18 @@ impl Pattern {
         }
     }
 
+    /// The logical block that is written whole. In order, its pages begin anew then.
+    fn next_block(&mut self, shape: Shape, random: &mut Random) -> usize {
+        match self {
+            Pattern::InOrder { l, next } => {
+                *next = 0;
+                *l
+            }
+            Pattern::Within { l } => *l,
+            Pattern::Anywhere => random.below(shape.logical),
+        }
+    }
+
     fn next_page(&mut self, shape: Shape, random: &mut Random) -> usize {
         match self {
             Pattern::InOrder { l, next } => {
@@ -81,7 +93,8 @@ impl History<'_> {
             return self.change(Action::PowerUp { cut: NO_CUT });
         }
         match self.random.below(100) {
-            0..65 => self.write(),
+            0..55 => self.write(),
+            55..65 => self.block_write(),
             65..75 => self.change(Action::PowerUp { cut: NO_CUT }),
             75..77 => self.change(Action::Format { cut: NO_CUT }),
             77..90 => self.odd_command(),
@@ -104,6 +117,11 @@ impl History<'_> {
         }
         let number = self.pattern.next_page(self.made_for, &mut self.random);
         self.change(Action::Write { number, cut: NO_CUT })
+    }
+
+    fn block_write(&mut self) -> Result<(), Difference> {
+        let number = self.pattern.next_block(self.made_for, &mut self.random);
+        self.change(Action::BlockWrite { number, cut: NO_CUT })
     }
 
     /// A command that changes the image, with every cut. The card then goes on from
@@ -140,6 +158,9 @@ impl History<'_> {
         let any = self.random.below(self.made_for.logical * self.made_for.pages);
         let written = match command.action {
             Action::Write { number, .. } => number,
+            Action::BlockWrite { number, .. } => {
+                number * shape.pages + self.random.below(shape.pages)
+            }
             _ => any,
         };
         for number in [written, any] {
@@ -170,12 +191,14 @@ impl History<'_> {
     /// A command with something wrong with it; what comes of it is not kept.
     fn odd_command(&mut self) -> Result<(), Difference> {
         let number = self.random.below(self.made_for.logical * self.made_for.pages);
+        let block = self.random.below(self.made_for.logical);
         let cut = NO_CUT;
         let action = self.random.one_of(&[
             Action::Format { cut },
             Action::PowerUp { cut },
             Action::Read { number },
             Action::Write { number, cut },
+            Action::BlockWrite { number: block, cut },
             Action::Lend { number },
         ]);
         let mut command = Command { shape: self.chip.shape, action };
@@ -197,10 +220,12 @@ impl History<'_> {
         };
     }
 
-    /// The image, a page and a table, lent at any place of the memory.
+    /// The image, a page, a block and a table, lent at any place of the memory.
     fn lent(&mut self) -> Lent {
         let mut page = [0; DATA_BYTES];
         fill_page(&mut page, &mut self.random);
+        let mut block = vec![[0; DATA_BYTES]; self.chip.shape.pages];
+        block.iter_mut().for_each(|page| fill_page(page, &mut self.random));
         let table = vec![7; 2 * self.chip.shape.logical];
         let random = &mut self.random;
         Lent {
@@ -208,6 +233,7 @@ impl History<'_> {
             spare: Guarded::new(&self.chip.spare, random.below(16)),
             table: Guarded::new(&table, random.below(16)),
             page: Guarded::new(&page, random.below(16)),
+            block: Guarded::new(block.as_flattened(), random.below(16)),
         }
     }
 

@@ -1,4 +1,4 @@
-//! What is compared: a layer is anything that has the five commands.
+//! What is compared: a layer is anything that has the six commands.
 
 use crate::command::{Action, Command, Lent, Reply};
 use crate::faults;
@@ -6,7 +6,7 @@ use second::Answer;
 
 /// The proved layer by its functions: the comparison lends buffers of any length.
 mod proved {
-    pub use hamutsigra::raw::{format, lend, power_up, read, write};
+    pub use hamutsigra::raw::{block_write, format, lend, power_up, read, write};
     pub use hamutsigra::{Answer, Shape};
 }
 
@@ -31,15 +31,18 @@ macro_rules! layer {
                     logs: shape.logs,
                 };
                 let answer = $answer;
-                let Lent { data, spare, table, page } = lent;
+                let Lent { data, spare, table, page, block } = lent;
                 let (data, spare) = (data.part_mut(), spare.part_mut());
-                let (table, page) = (table.part_mut(), page.part_mut());
+                let (table, page, block) = (table.part_mut(), page.part_mut(), block.part_mut());
                 Reply::Answer(answer(match action {
                     Action::Format { cut } => layer::format(data, spare, shape, cut),
                     Action::PowerUp { cut } => layer::power_up(data, spare, table, shape, cut),
                     Action::Read { number } => layer::read(data, spare, page, shape, number),
                     Action::Write { number, cut } => {
                         layer::write(data, spare, page, shape, number, cut)
+                    }
+                    Action::BlockWrite { number, cut } => {
+                        layer::block_write(data, spare, block, shape, number, cut)
                     }
                     Action::Lend { number } => {
                         let lent = layer::lend(data, spare, shape, number);
@@ -72,10 +75,11 @@ pub const PROVED: Layer = layer!("the proved layer", self::proved, |answer: laye
 pub const SECOND: Layer = layer!("the second program", second);
 
 /// The second program with a fault planted, under the name of the fault.
-pub const FAULTY: [Layer; 5] = [
+pub const FAULTY: [Layer; 6] = [
     layer!("first-copy", faults::first_copy),
     layer!("early-erase", faults::early_erase),
     layer!("half-copy", faults::half_copy),
     layer!("erased-by-data", faults::erased_by_data),
     layer!("complete-out-of-order", faults::complete_out_of_order),
+    layer!("data-left", faults::data_left),
 ];

@@ -62,6 +62,7 @@ impl Lockstep {
             ("spare image", one.spare.difference(&other.spare)),
             ("table", one.table.difference(&other.table)),
             ("page", one.page.difference(&other.page)),
+            ("block", one.block.difference(&other.block)),
         ];
         for (name, difference) in parts {
             lines.extend(difference.map(|words| format!("  {name}: first differs {words}")));
@@ -97,7 +98,8 @@ mod tests {
             data: none.clone(),
             spare: none.clone(),
             table: Guarded::new(&[], 0),
-            page: none,
+            page: none.clone(),
+            block: none,
         };
         let ran = Lockstep::new(tested, second).run(command, &lent);
         ran.err().map(|difference| difference.0)

@@ -15,8 +15,8 @@ it, and ends with exit status 1; for wrong arguments 64.
   --seconds S    stop after S seconds
   --seed X       the seed of the first card (1); the next one has the next seed
   --fault NAME   test, in the place of the proved layer, the second program with a
-                 fault planted: first-copy, early-erase, half-copy, erased-by-data or
-                 complete-out-of-order
+                 fault planted: first-copy, early-erase, half-copy, erased-by-data,
+                 complete-out-of-order or data-left
 ";
 
 const SECONDS: Duration = Duration::from_secs(30);

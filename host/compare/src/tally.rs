@@ -16,6 +16,9 @@ pub struct Tally {
     appended: u64,
     completed: u64,
     merged: u64,
+    /// Block writes that were all done, by the blocks that they replaced: none; the
+    /// data block or the log block; both.
+    block_writes: [u64; 3],
 }
 
 impl Tally {
@@ -27,12 +30,14 @@ impl Tally {
         if let Some(count) = self.answers.get_mut(usize::from(number)) {
             *count += 1;
         }
-        if let (Action::Write { .. }, 0) = (command.action, number) {
-            match (programs, erases) {
+        match (command.action, number) {
+            (Action::Write { .. }, 0) => match (programs, erases) {
                 (1, 0) => self.appended += 1,
                 (1, _) => self.completed += 1,
                 _ => self.merged += 1,
-            }
+            },
+            (Action::BlockWrite { .. }, 0) => self.block_writes[erases.min(2)] += 1,
+            _ => (),
         }
     }
 
@@ -48,11 +53,12 @@ impl fmt::Display for Tally {
         let answers: Vec<String> =
             counts.map(|(number, count)| format!("{number}: {count}")).collect();
         writeln!(out, "answers      {}", answers.join("  "))?;
-        let Tally { appended, completed, merged, .. } = self;
+        let Tally { appended, completed, merged, block_writes: [none, one, both], .. } = self;
         write!(
             out,
             "whole writes {appended} to a log block, {completed} replacing a data block, "
         )?;
-        write!(out, "{merged} with a merge")
+        writeln!(out, "{merged} with a merge")?;
+        write!(out, "block writes {none} replacing no block, {one} one block, {both} two blocks")
     }
 }

@@ -3,8 +3,15 @@
 
 use std::process::Command;
 
-const FAULTS: [&str; 5] =
-    ["first-copy", "early-erase", "half-copy", "erased-by-data", "complete-out-of-order"];
+/// The five mistakes that document 01 names, and one of the block write.
+const FAULTS: [&str; 6] = [
+    "first-copy",
+    "early-erase",
+    "half-copy",
+    "erased-by-data",
+    "complete-out-of-order",
+    "data-left",
+];
 
 struct Run {
     status: Option<i32>,
@@ -30,6 +37,10 @@ fn the_layers_do_not_differ() {
     assert!(
         last.starts_with("compare: ") && last.ends_with(" commands on 60 cards, 0 differences")
     );
+    // Block writes of each kind are among the commands.
+    let block_writes = run.text.lines().find(|line| line.starts_with("block writes "));
+    let mut words = block_writes.expect("their counts").split(' ');
+    assert!(words.all(|word| word != "0"), "{}", run.text);
 }
 
 #[test]
@@ -57,6 +68,13 @@ fn planted_faults_are_found() {
             assert!(run.text.contains(", 1 difference, with seed "), "{}", run.text);
         }
     }
+}
+
+/// No other command can show this one.
+#[test]
+fn the_fault_of_the_block_write_is_found_by_a_block_write() {
+    let run = compare("--cards 200 --seed 1 --fault data-left");
+    assert!(run.text.starts_with("block write of block "), "{}", run.text);
 }
 
 #[test]

@@ -22,9 +22,9 @@ pub struct Steps {
 pub enum Refusal {
     /// 1: shape or image length outside the limits.
     OutsideLimits,
-    /// 2: page buffer not 512 long, table not 2 x L.
+    /// 2: page buffer not 512 long, block buffer not P x 512, table not 2 x L.
     WrongBuffer,
-    /// 3: logical page out of range.
+    /// 3: logical page or logical block out of range.
     OutOfRange,
     /// 4: fewer good blocks than L + K + 1.
     TooFewBlocks,
@@ -68,8 +68,10 @@ impl fmt::Display for Refusal {
     fn fmt(&self, out: &mut fmt::Formatter) -> fmt::Result {
         out.write_str(match self {
             Refusal::OutsideLimits => "shape or image length outside the limits",
-            Refusal::WrongBuffer => "page buffer not 512 long, or table not 2 x L",
-            Refusal::OutOfRange => "logical page out of range",
+            Refusal::WrongBuffer => {
+                "page buffer not 512 long, block buffer not P x 512, or table not 2 x L"
+            }
+            Refusal::OutOfRange => "logical page or logical block out of range",
             Refusal::TooFewBlocks => "fewer good blocks than L + K + 1",
             Refusal::IllFormed => "the image is not well-formed",
             Refusal::NeedsPowerUp => "an obsolete block exists",

@@ -172,4 +172,31 @@ impl<D: AsMut<[u8]>, S: AsMut<[u8]>> Card<D, S> {
         let (data, spare) = (self.data.as_mut(), self.spare.as_mut());
         raw::write(data, spare, page, self.shape, number, cut.unwrap_or(NO_CUT))
     }
+
+    /// Makes the P x 512 bytes of `block` the content of logical block `number`, all or
+    /// none, with P programs and 2 erases at most: its o-th page gets the o-th 512 bytes.
+    ///
+    /// ```
+    /// # use hamutsigra::{Card, Refusal, Shape};
+    /// # let shape = Shape { pages: 4, logical: 2, logs: 1 };
+    /// # let mut card = Card::new(vec![255; 4 * 4 * 512], vec![255; 4 * 4 * 16], shape);
+    /// let block = [[1; 512], [2; 512], [3; 512], [4; 512]];
+    /// card.block_write(1, block.as_flattened(), None)?;
+    /// assert_eq!(card.read(6)?, [3; 512]);
+    /// # Ok::<(), Refusal>(())
+    /// ```
+    ///
+    /// # Errors
+    ///
+    /// 1 [`OutsideLimits`](Refusal::OutsideLimits), 2
+    /// [`WrongBuffer`](Refusal::WrongBuffer) if the block has not P x 512 bytes, 3
+    /// [`OutOfRange`](Refusal::OutOfRange) if `number` is not below L, 4
+    /// [`TooFewBlocks`](Refusal::TooFewBlocks), 5 [`IllFormed`](Refusal::IllFormed), 6
+    /// [`NeedsPowerUp`](Refusal::NeedsPowerUp), 7
+    /// [`OutOfNumbers`](Refusal::OutOfNumbers), 8 [`Cut`](Refusal::Cut): the block write
+    /// has happened exactly if its programs are P.
+    pub fn block_write(&mut self, number: usize, block: &[u8], cut: Option<usize>) -> Answer {
+        let (data, spare) = (self.data.as_mut(), self.spare.as_mut());
+        raw::block_write(data, spare, block, self.shape, number, cut.unwrap_or(NO_CUT))
+    }
 }

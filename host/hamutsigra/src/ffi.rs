@@ -62,6 +62,20 @@ extern "C" {
         cut: usize,
     ) -> u64;
 
+    fn hamutsigra_block_write(
+        data: *mut u8,
+        data_len: usize,
+        spare: *mut u8,
+        spare_len: usize,
+        block: *const u8,
+        block_len: usize,
+        pages: usize,
+        logical: usize,
+        logs: usize,
+        number: usize,
+        cut: usize,
+    ) -> u64;
+
     fn hamutsigra_lend(
         data: *const u8,
         data_len: usize,
@@ -139,23 +153,35 @@ pub fn read(data: &[u8], spare: &[u8], page: &mut [u8], shape: Shape, number: us
     }
 }
 
+/// What is written: by write or by block write, which take the same parts.
+#[derive(Clone, Copy)]
+pub enum Written {
+    Page,
+    Block,
+}
+
 pub fn write(
+    written: Written,
     data: &mut [u8],
     spare: &mut [u8],
-    page: &[u8],
+    bytes: &[u8],
     shape: Shape,
     number: usize,
     cut: usize,
 ) -> u64 {
+    let write = match written {
+        Written::Page => hamutsigra_write,
+        Written::Block => hamutsigra_block_write,
+    };
     // SAFETY: slices, as the head of this file says.
     unsafe {
-        hamutsigra_write(
+        write(
             data.as_mut_ptr(),
             data.len(),
             spare.as_mut_ptr(),
             spare.len(),
-            page.as_ptr(),
-            page.len(),
+            bytes.as_ptr(),
+            bytes.len(),
             shape.pages,
             shape.logical,
             shape.logs,

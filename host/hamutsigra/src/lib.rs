@@ -5,7 +5,7 @@
 //! the host side. It needs no heap and no standard library.
 //!
 //! A [`Card`] is a chip with its shape. It owns the bytes of the chip or is lent them,
-//! and has the five commands as methods:
+//! and has the six commands as methods:
 //!
 //! ```
 //! use hamutsigra::{Card, Shape};

@@ -1,7 +1,8 @@
 //! The commands as functions of the buffers lent to them, of any length: what the
 //! methods of [`Card`](crate::Card) call, with the numbers of the C functions.
 
-use crate::{answer, ffi, Answer, Shape, DATA_BYTES};
+use crate::ffi::{self, Written};
+use crate::{answer, Answer, Shape, DATA_BYTES};
 
 /// As cut number: the card is not pulled out. No list of steps is this long.
 pub const NO_CUT: usize = usize::MAX;
@@ -73,7 +74,26 @@ pub fn write(
     number: usize,
     cut: usize,
 ) -> Answer {
-    answer::unpack(ffi::write(data, spare, page, shape, number, cut))
+    answer::unpack(ffi::write(Written::Page, data, spare, page, shape, number, cut))
+}
+
+/// Makes the P x 512 bytes of `block` the content of logical block `number`, all or
+/// none.
+///
+/// A cut block write has happened exactly if its programs are P.
+///
+/// # Errors
+///
+/// Answers 1 to 8.
+pub fn block_write(
+    data: &mut [u8],
+    spare: &mut [u8],
+    block: &[u8],
+    shape: Shape,
+    number: usize,
+    cut: usize,
+) -> Answer {
+    answer::unpack(ffi::write(Written::Block, data, spare, block, shape, number, cut))
 }
 
 /// Lends back the 512 bytes of the image that are the content of logical page

@@ -75,6 +75,32 @@ fn a_cut_write_says_how_far_it_came() {
     assert_eq!(table[1].log_block(), Some(0));
 }
 
+/// Four pages, each filled with one byte.
+fn block(fills: [u8; 4]) -> Vec<u8> {
+    fills.map(|fill| [fill; 512]).concat()
+}
+
+fn contents(card: &Card<Vec<u8>>, pages: std::ops::Range<usize>) -> Vec<u8> {
+    pages.flat_map(|number| card.read(number).expect("a page")).collect()
+}
+
+#[test]
+fn a_block_is_written_all_or_none() {
+    let (old, new) = (block([11, 12, 13, 14]), block([21, 22, 23, 24]));
+    for cut in 0..6 {
+        let mut card = after_case_4();
+        let done = steps(cut.min(4), cut.saturating_sub(4));
+        assert_eq!(card.block_write(0, &new, Some(cut as usize)), Err(Refusal::Cut(done)));
+        let expected = if done.programs == 4 { &new } else { &old };
+        assert_eq!(contents(&card, 0..4), *expected, "cut at {cut}");
+    }
+    let mut card = after_case_4();
+    assert_eq!(card.block_write(0, &new, Some(6)), Ok(steps(4, 2)));
+    assert_eq!(card.block_write(1, &old, None), Ok(steps(4, 0)));
+    assert_eq!(contents(&card, 0..8), [new, old].concat());
+    assert_eq!(card.lend(5).map(|lent| lent.at), Some(512), "the lowest-numbered free block");
+}
+
 #[test]
 fn format_erases_what_is_not_free() {
     let mut card = after_case_4();
@@ -92,6 +118,17 @@ fn each_refusal_comes_back_as_itself() {
     assert_eq!(card.write(8, &page, None), Err(Refusal::OutOfRange));
     let large = Shape { logical: 1 << 63, ..SHAPE };
     assert_eq!(card.clone().with_shape(large).write(0, &page, None), Err(Refusal::TooFewBlocks));
+    let block = [7; 2048];
+    let answer = card.clone().with_shape(outside).block_write(0, &block, None);
+    assert_eq!(answer, Err(Refusal::OutsideLimits));
+    for bytes in [0, 512, 2047] {
+        assert_eq!(card.block_write(2, &block[..bytes], None), Err(Refusal::WrongBuffer));
+    }
+    for number in [2, 8, usize::MAX] {
+        assert_eq!(card.block_write(number, &block, None), Err(Refusal::OutOfRange));
+    }
+    let answer = card.clone().with_shape(large).block_write(2, &block, None);
+    assert_eq!(answer, Err(Refusal::TooFewBlocks));
     for entries in [0, 1, 3] {
         let mut table = vec![TableEntry::default(); entries];
         assert_eq!(card.power_up(&mut table, None), Err(Refusal::WrongBuffer));
@@ -104,10 +141,13 @@ fn each_refusal_comes_back_as_itself() {
     };
     let mut ill_formed = with_spare(&[1, 0, 0, 0, 99]);
     assert_eq!(ill_formed.write(0, &page, None), Err(Refusal::IllFormed));
+    assert_eq!(ill_formed.block_write(0, &block, None), Err(Refusal::IllFormed));
     let mut obsolete = with_spare(&[1, 0, 0, 0, 15, 255, 0, 0]);
     assert_eq!(obsolete.write(0, &page, None), Err(Refusal::NeedsPowerUp));
+    assert_eq!(obsolete.block_write(0, &block, None), Err(Refusal::NeedsPowerUp));
     let mut last = with_spare(&[254, 255, 255, 255, 240, 255, 0, 0]);
     assert_eq!(last.write(4, &page, None), Err(Refusal::OutOfNumbers));
+    assert_eq!(last.block_write(0, &block, None), Err(Refusal::OutOfNumbers));
 }
 
 #[test]
@@ -118,6 +158,14 @@ fn the_raw_functions_take_buffers_of_any_length() {
         assert_eq!(answer, Err(Refusal::WrongBuffer));
     }
     assert_eq!(raw::format(&mut [], &mut [], SHAPE, raw::NO_CUT), Err(Refusal::OutsideLimits));
+    // P x 512 is 0 in 64 bits, and so is the length.
+    for pages in [0, 1 << 55] {
+        let shape = Shape { pages, ..SHAPE };
+        let answer = raw::block_write(&mut data, &mut spare, &[], shape, usize::MAX, raw::NO_CUT);
+        assert_eq!(answer, Err(Refusal::OutsideLimits));
+    }
+    let answer = raw::block_write(&mut data, &mut spare, &[], SHAPE, usize::MAX, raw::NO_CUT);
+    assert_eq!(answer, Err(Refusal::WrongBuffer));
     assert_eq!(raw::lend(&[], &[], SHAPE, 0), None);
     let answer = raw::power_up(&mut data, &mut spare, &mut [], SHAPE, raw::NO_CUT);
     assert_eq!(answer, Err(Refusal::WrongBuffer));

@@ -74,6 +74,12 @@ impl Twice {
                 assert_eq!(lent, expected_lent.map(|lent| (lent.at, lent.bytes)));
                 (read.map(|_| Steps::default()), expected)
             }
+            5..7 => {
+                let bytes = random.one_of(&[1536, 1536, 1536, 1536, 0, 512, 1535, 1537]);
+                let block = vec![random.byte(); bytes];
+                let answer = card.block_write(number, &block, cut);
+                (answer, raw::block_write(below, below_spare, &block, shape, number, no_cut))
+            }
             _ => {
                 let answer = card.write(number, &page, cut);
                 (answer, raw::write(below, below_spare, &page, shape, number, no_cut))

@@ -1,6 +1,6 @@
-//! Format, power-up, read, write and lend. Each asks the refusals of its column
-//! first, lowest number first; then finds its list; then does the steps that the
-//! cut lets happen.
+//! Format, power-up, read, write, block write and lend. Each asks the refusals of its
+//! column first, lowest number first; then finds its list; then does the steps that
+//! the cut lets happen.
 
 use crate::blocks::Blocks;
 use crate::card::Card;
@@ -116,8 +116,44 @@ fn write_list(
     refusals::good_blocks(&card)?;
     let blocks = refusals::well_formed(&card)?;
     refusals::no_obsolete(&blocks)?;
-    refusals::numbers(&card, &blocks, number)?;
+    refusals::numbers(&blocks, plan::new_numbers(&card, &blocks, number))?;
     Ok(plan::write(&card, &blocks, number, page))
+}
+
+/// Programs the P x 512 bytes of `block` as logical block `number`: it has the old
+/// content until the last program and the new one from there.
+pub fn block_write(
+    data: &mut [u8],
+    spare: &mut [u8],
+    block: &[u8],
+    shape: Shape,
+    number: usize,
+    cut: usize,
+) -> Answer {
+    match block_write_list(data, spare, block, shape, number) {
+        Ok(list) => steps::run(&list, cut, shape.pages, data, spare),
+        Err(refusal) => refused(refusal),
+    }
+}
+
+/// Checks are those of write, with 2 for a wrong buffer length and 3 for l not
+/// below L.
+fn block_write_list(
+    data: &[u8],
+    spare: &[u8],
+    block: &[u8],
+    shape: Shape,
+    number: usize,
+) -> Result<Vec<Step>, Refusal> {
+    let card = refusals::card(data, spare, shape)?;
+    refusals::block_buffer(block, shape)?;
+    refusals::logical_block(number, shape)?;
+    refusals::good_blocks(&card)?;
+    let blocks = refusals::well_formed(&card)?;
+    refusals::no_obsolete(&blocks)?;
+    // It needs one new number.
+    refusals::numbers(&blocks, 1)?;
+    Ok(plan::block_write(&card, &blocks, number, block))
 }
 
 /// A page lent back.

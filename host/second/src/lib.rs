@@ -1,10 +1,11 @@
-//! The layer once more, in ordinary Rust, written from document 01 alone.
+//! The layer once more, in ordinary Rust, written from document 01 alone; the block
+//! write from document 02, request (i).
 //!
 //! It is there to be compared with the proved layer and to be read beside the
-//! document: a sentence of the document stands above the lines made from it,
+//! documents: a sentence of a document stands above the lines made from it,
 //! and where a plainer form and a faster one differ, the plainer one is taken.
 //!
-//! The files follow the order of the document:
+//! The files follow the order of document 01:
 //!
 //! * [`shape`]: the four numbers of a card and their limits;
 //! * [`spare`]: the spare bytes of a programmed page;
@@ -15,9 +16,10 @@
 //! * `steps`: programs and erases, and how many of them a cut lets happen;
 //! * `plan`: the list of steps of each command;
 //! * `refusals`: when the card refuses;
-//! * `commands`: format, power-up, read, write and lend, and what they reply.
+//! * `commands`: format, power-up, read, write, block write and lend, and what they
+//!   reply.
 //!
-//! The five commands are the layer, and no input makes them panic. The public files
+//! The six commands are the layer, and no input makes them panic. The public files
 //! are for those who want to look at a card.
 
 #![forbid(unsafe_code)]
@@ -33,6 +35,6 @@ pub mod shape;
 pub mod spare;
 mod steps;
 
-pub use commands::{format, lend, power_up, read, write, Lent, NONE};
+pub use commands::{block_write, format, lend, power_up, read, write, Lent, NONE};
 pub use shape::Shape;
 pub use steps::Answer;

@@ -40,12 +40,27 @@ pub fn write(card: &Card, blocks: &Blocks, a: usize, data: &[u8]) -> Vec<Step> {
     plan.steps
 }
 
-/// The new numbers that a write in block l needs (0, 1 or 2): one for the copy
-/// if it merges, one for the log block if it takes one.
-pub fn new_numbers(card: &Card, blocks: &Blocks, l: usize) -> u64 {
+/// The new numbers that a write of page a needs (0, 1 or 2): one for the copy if it
+/// merges, one for the log block if it takes one.
+pub fn new_numbers(card: &Card, blocks: &Blocks, a: usize) -> u64 {
+    let l = card.shape.logical_block(a);
     let merges = merged_first(card.shape, blocks, l).is_some();
     let takes_log = log_with_room(card.shape, blocks, l).is_none();
     u64::from(merges) + u64::from(takes_log)
+}
+
+/// **Block write** of P x 512 bytes for logical block l, when none of 1 to 7 applies. It
+/// takes one block, programs P pages of kind copy in order, then erases l's live log
+/// block and then its data block, where they exist.
+pub fn block_write(card: &Card, blocks: &Blocks, l: usize, data: &[u8]) -> Vec<Step> {
+    let (pages, _) = data.as_chunks();
+    let mut plan = Plan::new(card, blocks);
+    plan.copy(l, pages);
+    if let Some(log) = blocks.live_log(l) {
+        plan.erase(log.block);
+    }
+    plan.erase_data_block(l);
+    plan.steps
 }
 
 /// The live log block of l, if it has room.
@@ -110,13 +125,20 @@ impl<'a> Plan<'a> {
     fn merge(&mut self, log: &Used) {
         let l = log.logical_block;
         let pages = self.card.shape.pages;
-        let (block, number) = self.take();
-        for page in 0..pages {
-            let a = l * pages + page;
-            self.program(block, page, spare(number, Kind::Copy, a), self.content(a));
-        }
+        let content: Vec<_> = (l * pages..(l + 1) * pages).map(|a| self.content(a)).collect();
+        self.copy(l, content);
         self.erase(log.block);
         self.erase_data_block(l);
+    }
+
+    /// Takes a block and programs its P pages in order with this content of l, kind
+    /// copy.
+    fn copy<'c>(&mut self, l: usize, content: impl IntoIterator<Item = &'c [u8; DATA_BYTES]>) {
+        let pages = self.card.shape.pages;
+        let (block, number) = self.take();
+        for (page, data) in (0..pages).zip(content) {
+            self.program(block, page, spare(number, Kind::Copy, l * pages + page), data);
+        }
     }
 
     /// "Take a block" means the lowest-numbered free block at that moment, with

@@ -4,7 +4,6 @@
 
 use crate::blocks::Blocks;
 use crate::card::Card;
-use crate::plan;
 use crate::shape::{Shape, DATA_BYTES};
 use crate::spare::HIGHEST_NUMBER;
 
@@ -30,6 +29,13 @@ pub fn page_buffer(page: &[u8]) -> Result<(), Refusal> {
     refuse_if(page.len() != DATA_BYTES, Refusal::WrongBuffer)
 }
 
+/// 2: block buffer not P x 512 long. The product is taken in a wider number, so that it
+/// is right for any P, also one that is outside the limits.
+pub fn block_buffer(block: &[u8], shape: Shape) -> Result<(), Refusal> {
+    let bytes = shape.pages as u128 * DATA_BYTES as u128;
+    refuse_if(block.len() as u128 != bytes, Refusal::WrongBuffer)
+}
+
 /// 2: table not 2 x L. L has no upper limit, so 2 x L is taken in a wider number.
 pub fn table(table: &[u16], shape: Shape) -> Result<(), Refusal> {
     refuse_if(table.len() as u128 != 2 * shape.logical as u128, Refusal::WrongBuffer)
@@ -38,6 +44,11 @@ pub fn table(table: &[u16], shape: Shape) -> Result<(), Refusal> {
 /// 3: logical page out of range.
 pub fn logical_page(a: usize, shape: Shape) -> Result<(), Refusal> {
     refuse_if(!shape.in_range(a), Refusal::OutOfRange)
+}
+
+/// 3: l not below L.
+pub fn logical_block(l: usize, shape: Shape) -> Result<(), Refusal> {
+    refuse_if(l >= shape.logical, Refusal::OutOfRange)
 }
 
 /// 4: fewer good blocks than L + K + 1.
@@ -59,9 +70,8 @@ pub fn no_obsolete(blocks: &Blocks) -> Result<(), Refusal> {
 }
 
 /// 7: highest number plus new numbers needed (0, 1 or 2) above 4,294,967,294.
-pub fn numbers(card: &Card, blocks: &Blocks, a: usize) -> Result<(), Refusal> {
-    let l = card.shape.logical_block(a);
-    let last = u64::from(blocks.highest_number()) + plan::new_numbers(card, blocks, l);
+pub fn numbers(blocks: &Blocks, needed: u64) -> Result<(), Refusal> {
+    let last = u64::from(blocks.highest_number()) + needed;
     refuse_if(last > u64::from(HIGHEST_NUMBER), Refusal::OutOfNumbers)
 }
 

@@ -21,7 +21,7 @@ pub const STATUS: usize = 5;
 pub enum Kind {
     /// Pages in the order in which they were written.
     Log,
-    /// Pages put in order by a merge.
+    /// Pages put in order by a merge or a block write.
     Copy,
 }
 

@@ -2,21 +2,21 @@
 
 mod common;
 
-use common::{blank, done, refused, small_card, Chip, NO_CUT};
+use common::{blank, cut, done, refused, small_card, Chip, NO_CUT};
 use second::spare::Kind;
-use second::Shape;
+use second::{Answer, Shape};
 
 #[test]
 fn refusal_1_limits_of_the_shape() {
     let answers = |pages, blocks, logical, logs| blank(pages, blocks, logical, logs).answers();
     for (pages, number) in [(0, 1), (1, 1), (2, 0), (32, 0), (33, 1)] {
-        assert_eq!(answers(pages, 4, 2, 1), [number; 4], "P {pages}");
+        assert_eq!(answers(pages, 4, 2, 1), [number; 5], "P {pages}");
     }
     for (blocks, number) in [(0, 1), (2, 1), (3, 0), (64, 0), (65, 1)] {
-        assert_eq!(answers(4, blocks, 1, 1), [number; 4], "B {blocks}");
+        assert_eq!(answers(4, blocks, 1, 1), [number; 5], "B {blocks}");
     }
-    assert_eq!(answers(4, 4, 0, 1), [1; 4], "L 0");
-    assert_eq!(answers(4, 4, 2, 0), [1; 4], "K 0");
+    assert_eq!(answers(4, 4, 0, 1), [1; 5], "L 0");
+    assert_eq!(answers(4, 4, 2, 0), [1; 5], "K 0");
 }
 
 #[test]
@@ -27,26 +27,32 @@ fn refusal_1_lengths_of_the_image() {
         chip.spare.resize(spare, 255);
         chip.answers()
     };
-    assert_eq!(answers(8192, 256), [0; 4]);
+    assert_eq!(answers(8192, 256), [0; 5]);
     // A byte more or less, a page more or less, a block on one side alone.
     for data in [0, 8191, 8193, 8192 - 512, 8192 + 512, 8192 + 2048] {
-        assert_eq!(answers(data, 256), [1; 4], "{data} data bytes");
+        assert_eq!(answers(data, 256), [1; 5], "{data} data bytes");
     }
     for spare in [0, 255, 257, 256 - 16, 256 + 16, 256 + 64] {
-        assert_eq!(answers(8192, spare), [1; 4], "{spare} spare bytes");
+        assert_eq!(answers(8192, spare), [1; 5], "{spare} spare bytes");
     }
     // The same number of pages on both sides, but not of whole blocks.
-    assert_eq!(answers(8192 + 512, 256 + 16), [1; 4]);
+    assert_eq!(answers(8192 + 512, 256 + 16), [1; 5]);
 }
 
 #[test]
-fn refusal_2_page_buffer_and_table() {
+fn refusal_2_page_buffer_block_buffer_and_table() {
     let Chip { mut data, mut spare, shape } = small_card();
     for bytes in [0, 1, 511, 513, 1024] {
         let mut page = vec![7; bytes];
         assert_eq!(second::read(&data, &spare, &mut page, shape, 0), refused(2));
         assert_eq!(page, vec![7; bytes]);
         assert_eq!(second::write(&mut data, &mut spare, &page, shape, 0, NO_CUT), refused(2));
+    }
+    // A page is no block; nor is one with a byte or a page more or less.
+    for bytes in [0, 1, 512, 1536, 2047, 2049, 2560, 8192] {
+        let block = vec![7; bytes];
+        let answer = second::block_write(&mut data, &mut spare, &block, shape, 0, NO_CUT);
+        assert_eq!(answer, refused(2), "{bytes} bytes");
     }
     for entries in [0, 1, 2, 3, 5, 8] {
         let mut table = vec![7; entries];
@@ -71,34 +77,45 @@ fn refusal_3_logical_page() {
 }
 
 #[test]
+fn refusal_3_logical_block() {
+    let mut chip = small_card();
+    // Those up to 7 are pages in range, but no logical blocks.
+    for number in [2, 3, 7, 8, 65_535, 65_536, usize::MAX] {
+        assert_eq!(chip.block_write(number, 1), refused(3), "logical block {number}");
+    }
+    assert_eq!(chip, small_card());
+    assert_eq!(chip.block_write(1, 1), done(4, 0));
+}
+
+#[test]
 fn refusal_4_good_blocks() {
     let with_bad = |bad: usize| {
         let mut chip = blank(4, 8, 3, 2);
         (0..bad).for_each(|block| chip.make_bad(block));
         chip.answers()
     };
-    assert_eq!(with_bad(2), [0; 4]);
-    assert_eq!(with_bad(3), [4; 4]);
-    assert_eq!(with_bad(8), [4; 4]);
+    assert_eq!(with_bad(2), [0; 5]);
+    assert_eq!(with_bad(3), [4; 5]);
+    assert_eq!(with_bad(8), [4; 5]);
 }
 
 #[test]
 fn refusal_5_is_not_for_format() {
     let mut chip = small_card();
     chip.spare_of(1, 2).fill(0);
-    assert_eq!(chip.answers(), [0, 5, 5, 5]);
+    assert_eq!(chip.answers(), [0, 5, 5, 5, 5]);
     assert_eq!(chip.place(0), None);
     assert_eq!(chip.format(NO_CUT), done(0, 1));
     assert_eq!(chip, small_card());
 }
 
 #[test]
-fn refusal_6_is_for_write_alone() {
+fn refusal_6_is_for_the_writes_alone() {
     let mut chip = small_card();
     chip.make_up(0, Kind::Copy, 1, &[0]);
-    assert_eq!(chip.answers(), [0, 0, 0, 6]);
+    assert_eq!(chip.answers(), [0, 0, 0, 6, 6]);
     assert_eq!(chip.power_up(NO_CUT).0, done(0, 1));
-    assert_eq!(chip.answers(), [0, 0, 0, 0]);
+    assert_eq!(chip.answers(), [0; 5]);
 }
 
 #[test]
@@ -122,6 +139,27 @@ fn refusal_7_counts_the_numbers_needed() {
 }
 
 #[test]
+fn refusal_7_a_block_write_needs_one_number() {
+    let top = 4_294_967_294;
+    // Log blocks with room, full and complete; the logical block itself and another.
+    for logical_pages in [[0].as_slice(), &[0, 0, 0, 0], &[0, 1, 2, 3]] {
+        for l in [0, 1] {
+            let mut chip = small_card();
+            chip.make_up(0, Kind::Log, top, logical_pages);
+            let before = chip.clone();
+            assert_eq!(chip.block_write(l, 1), refused(7));
+            assert_eq!(chip, before);
+
+            chip.make_up(0, Kind::Log, top - 1, logical_pages);
+            assert_eq!(chip.block_write(l, 1), done(4, 1 - l));
+            for page in 0..4 {
+                assert_eq!(chip.spare_of(1, page)[..4], [254, 255, 255, 255]);
+            }
+        }
+    }
+}
+
+#[test]
 fn refusal_8_where_the_cut_is_below_the_length_of_the_list() {
     let mut chip = small_card();
     chip.make_up(0, Kind::Copy, 1, &[0]);
@@ -139,47 +177,56 @@ fn refusal_8_where_the_cut_is_below_the_length_of_the_list() {
 
     assert_eq!(small_card().write_cut(0, 1, 0).number, 8);
     assert_eq!(small_card().write_cut(0, 1, 1), done(1, 0));
+    assert_eq!(small_card().block_write_cut(0, 1, 3), cut(3, 0));
+    assert_eq!(small_card().block_write_cut(0, 1, 4), done(4, 0));
     // An empty list is all done, whatever the cut.
     assert_eq!(small_card().format(0), done(0, 0));
     assert_eq!(small_card().power_up(0), (done(0, 0), vec![second::NONE; 4]));
 }
 
-/// A card to which all of 1 to 8 apply; they are then taken away one by one.
+/// Write or block write: both are given a buffer, the shape, a number and a cut.
+type Write = fn(&mut [u8], &mut [u8], &[u8], Shape, usize, usize) -> Answer;
+
 #[test]
 fn the_lowest_number_that_applies_is_the_answer() {
+    // The bytes of a page and the first number that is no page; the same of a block.
+    in_order(second::write, 512, 8);
+    in_order(second::block_write, 2048, 2);
+}
+
+/// A card to which all of 1 to 8 apply; they are then taken away one by one.
+fn in_order(write: Write, bytes: usize, mut number: usize) {
     let mut chip = small_card();
-    let mut page = vec![1; 511];
-    let mut number = 8;
+    let mut buffer = vec![1; bytes - 1];
     chip.make_up(0, Kind::Log, 4_294_967_294, &[0, 0, 0, 0]);
     chip.make_up(1, Kind::Copy, 1, &[0]);
     chip.make_bad(3);
     chip.spare_of(2, 3)[0] = 0;
     chip.shape.pages = 5;
 
-    let expect = |chip: &Chip, page: &[u8], page_number: usize, answer: u8| {
+    let expect = |chip: &Chip, buffer: &[u8], number: usize, answer: u8| {
         let Chip { mut data, mut spare, shape } = chip.clone();
-        let given = second::write(&mut data, &mut spare, page, shape, page_number, 0);
+        let given = write(&mut data, &mut spare, buffer, shape, number, 0);
         assert_eq!(given, refused(answer));
         assert_eq!(Chip { data, spare, shape }, *chip);
     };
-    expect(&chip, &page, number, 1);
+    expect(&chip, &buffer, number, 1);
     chip.shape.pages = 4;
-    expect(&chip, &page, number, 2);
-    page.push(1);
-    expect(&chip, &page, number, 3);
+    expect(&chip, &buffer, number, 2);
+    buffer.push(1);
+    expect(&chip, &buffer, number, 3);
     number = 0;
-    expect(&chip, &page, number, 4);
+    expect(&chip, &buffer, number, 4);
     chip.spare_of(3, 0)[5] = 255;
-    expect(&chip, &page, number, 5);
+    expect(&chip, &buffer, number, 5);
     chip.spare_of(2, 3)[0] = 255;
-    expect(&chip, &page, number, 6);
-    chip.spare_of(1, 0).fill(255);
-    chip.data_of(1, 0).fill(255);
-    expect(&chip, &page, number, 7);
+    expect(&chip, &buffer, number, 6);
+    chip.erase(1);
+    expect(&chip, &buffer, number, 7);
     for page in 0..4 {
         chip.spare_of(0, page)[0] = 1;
     }
-    expect(&chip, &page, number, 8);
+    expect(&chip, &buffer, number, 8);
 }
 
 #[test]

@@ -1,5 +1,5 @@
-//! Each of W1 to W7 broken in each of its ways: read, write and power-up answer
-//! 5 and change nothing; format takes the card as it is. And what is no breach.
+//! Each of W1 to W7 broken in each of its ways: read, write, block write and power-up
+//! answer 5 and change nothing; format takes the card as it is. And what is no breach.
 
 mod common;
 
@@ -9,9 +9,9 @@ use second::blocks::{Blocks, Breach, Role};
 use second::card::Card;
 use second::spare::Kind;
 
-const ILL_FORMED: [u8; 4] = [0, 5, 5, 5];
-const OBSOLETE: [u8; 4] = [0, 0, 0, 6];
-const RECOVERED: [u8; 4] = [0, 0, 0, 0];
+const ILL_FORMED: [u8; 5] = [0, 5, 5, 5, 5];
+const OBSOLETE: [u8; 5] = [0, 0, 0, 6, 6];
+const RECOVERED: [u8; 5] = [0, 0, 0, 0, 0];
 
 /// A well-formed card with room: P 4, L 3, K 2, B 8; the data block of logical
 /// block 0 is block 0, its live log block 1, and that of logical block 1 block 2.
@@ -42,7 +42,7 @@ fn breaks(rule: Rule, blocks: &[usize], damage: impl Fn(&mut Chip)) {
 }
 
 #[track_caller]
-fn answers(expected: [u8; 4], change: impl Fn(&mut Chip)) {
+fn answers(expected: [u8; 5], change: impl Fn(&mut Chip)) {
     let mut chip = card();
     change(&mut chip);
     assert_eq!(chip.answers(), expected);

@@ -13,23 +13,24 @@ returns c =
     ran-same (firstSteps-none (a .s) (imageOf (a .bytes .now) (a .spare .now)) (recordsIn (a .list .now)) (a .p) (c .if1 .taken))
     (ran-none (start .pre .3))
 
-merge-requires : tie.Need-merge-requires
-merge-requires c κs =
+renew-requires : tie.Need-renew-requires
+renew-requires c κs =
     let test : tie.Else1 = search (c) in
     let start : tie.Start = search (test) in
-    (start .pre .0, start .pre .1, start .pre .2, test .if1 .left, start .pre .3)
+    let able = start .pre .2 in
+    (start .pre .0, start .pre .1, able .renewable (test .if1 .left), able .kept (test .if1 .left), start .pre .3)
 
 same-length : tie.Need-same-length
 same-length c = search needs
 
 returns-2 : tie.Need-returns-2
 returns-2 c =
-    let done : tie.After-merge = search (c) in
+    let done : tie.After-renew = search (c) in
     let test : tie.Else1 = search (done) in
     let start : tie.Start = search (test) in
     let a = start .args in
     ran-same (firstSteps-merge (a .s) (imageOf (a .bytes .now) (a .spare .now)) (recordsIn (a .list .now)) (a .p) (test .if1 .left))
-    (done .merge .ensures)
+    (done .renew .ensures)
 
 pub first-steps-spec : {M : Type 1} → statement M
-first-steps-spec = tie.close (tie.spec returns merge-requires same-length (λ c. search needs) returns-2)
+first-steps-spec = tie.close (tie.spec returns (λ c. search needs) renew-requires same-length (λ c. search needs) returns-2)

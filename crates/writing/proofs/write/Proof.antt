@@ -12,11 +12,12 @@ use Rattle.rules.specs.Replies.{writeRefusal, writeReply}
 use Rattle.words.specs.Words.{recordsIn}
 use Rattle.history.proofs.Answers.{write-taken}
 use Rattle.refusals.specs.Orders.{openRefusal}
+use Rattle.refusals.proofs.Refusing.{write-order}
 use Rattle.survey.proofs.Opening.{opened-surveyed}
 use Rattle.steps.proofs.Running.{ran-same}
 use Rattle.steps.proofs.Replying.{replied-refused, replied-done}
 use Rattle.carry.proofs.Planning.{Ready, ready}
-use Rattle.writing.proofs.Accepting.{write-first, write-late}
+use Rattle.writing.proofs.Accepting.{plan-needs, refused-first, refused-late}
 use Rattle.writing.proofs.write.Statement.{statement}
 use Rattle.writing.proofs.write.Tie as tie
 
@@ -43,8 +44,9 @@ late-is t =
     let opened : tie.After-of = search (passed) in
     let a = start opened .args in
     let v = opened-surveyed (opened .of .ensures) (passed .if1 .left) in
-    write-late (a .s) (imageOf (a .bytes .now) (a .spare .now)) (length (a .page .now)) (a .a) (refusal-is opened) (passed .if1 .left) (v .records)
-    (v .census-is) (plan .of2 .ensures) (t .of-write .ensures)
+    let im = imageOf (a .bytes .now) (a .spare .now) in
+    refused-late (a .s) im _ (write-order (a .s) im (length (a .page .now)) (a .a) (refusal-is opened)) (passed .if1 .left) (v .records) (v .census-is)
+    (plan-needs (a .s) (a .a) (v .records) (plan .of2 .ensures)) (t .of-write .ensures)
 
 planned : (t : tie.Else2) →
     let plan : tie.After-of2 = search (t) in
@@ -69,7 +71,7 @@ returns c =
     let a = start opened .args in
     let im = imageOf (a .bytes .now) (a .spare .now) in
     replied-refused (a .s) (a .bytes .now) (a .spare .now) (a .cut) (writeList (a .s) im (blocksOf (a .s) im) (a .a) (a .page .now))
-    (write-first (a .s) im (length (a .page .now)) (a .a) (refusal-is opened) (c .if1 .taken)) (c .if1 .taken)
+    (refused-first (a .s) im _ (write-order (a .s) im (length (a .page .now)) (a .a) (refusal-is opened)) (c .if1 .taken)) (c .if1 .taken)
 
 of-requires-2 : tie.Need-of-requires-2
 of-requires-2 c κs =

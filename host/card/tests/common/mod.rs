@@ -98,6 +98,21 @@ impl Folder {
         self.card_with_input(&line, &[fill; 512])
     }
 
+    /// Loads bytes as a logical block of `card.img`.
+    pub fn load(&self, number: usize, block: &[u8], rest: &str) -> Run {
+        let line = format!("load card.img {number} - {SHAPE_ARGUMENTS} {rest}");
+        self.card_with_input(&line, block)
+    }
+
+    /// The pages of `card.img` from one to another, each filled with one byte: these
+    /// bytes.
+    pub fn fills(&self, from: usize, to: usize) -> Vec<u8> {
+        let run = self.on_card("dump", &format!("- --from {from} --to {to}"));
+        let (pages, rest) = run.expect_status(0).out.as_chunks::<512>();
+        assert!(rest.is_empty() && pages.iter().all(|page| *page == [page[0]; 512]));
+        pages.iter().map(|page| page[0]).collect()
+    }
+
     /// The small card after case 4 of document 01, in `card.img`.
     pub fn after_case_4() -> Folder {
         let folder = Folder::with_card();
@@ -168,6 +183,11 @@ impl Run {
         }
         self
     }
+}
+
+/// A logical block of the small card, each page filled with one byte.
+pub fn block(fills: [u8; 4]) -> Vec<u8> {
+    fills.map(|fill| [fill; 512]).concat()
 }
 
 /// The dump of a data and a spare image.

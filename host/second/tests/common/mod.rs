@@ -62,6 +62,18 @@ impl Chip {
         self.write_cut(number, fill, NO_CUT)
     }
 
+    /// Writes a logical block whose pages are filled with one byte each, the first with
+    /// this one, the next with the next ones.
+    pub fn block_write_cut(&mut self, number: usize, fill: u8, cut: usize) -> Answer {
+        let fills = (0..self.shape.pages).map(|page| fill.wrapping_add(page as u8));
+        let block: Vec<u8> = fills.flat_map(|fill| [fill; 512]).collect();
+        second::block_write(&mut self.data, &mut self.spare, &block, self.shape, number, cut)
+    }
+
+    pub fn block_write(&mut self, number: usize, fill: u8) -> Answer {
+        self.block_write_cut(number, fill, NO_CUT)
+    }
+
     /// Reads a page that is filled with one byte, and gives this byte.
     pub fn read(&self, number: usize) -> u8 {
         let mut page = [7; 512];
@@ -99,13 +111,21 @@ impl Chip {
         }
     }
 
+    /// Makes a block free, as an erase does.
+    pub fn erase(&mut self, block: usize) {
+        for page in 0..self.shape.pages {
+            self.spare_of(block, page).fill(255);
+            self.data_of(block, page).fill(255);
+        }
+    }
+
     pub fn make_bad(&mut self, block: usize) {
         self.spare_of(block, 0)[5] = 0;
     }
 
-    /// What each of format, power-up, read and write answers (write of page 0).
-    /// Those that refuse are held to changing nothing.
-    pub fn answers(&self) -> [u8; 4] {
+    /// What each of format, power-up, read, write and block write answers (of page 0 and
+    /// of logical block 0). Those that refuse are held to changing nothing.
+    pub fn answers(&self) -> [u8; 5] {
         [
             self.answer_of(|chip| chip.format(NO_CUT)),
             self.answer_of(|chip| chip.power_up(NO_CUT).0),
@@ -116,6 +136,7 @@ impl Chip {
                 answer
             }),
             self.answer_of(|chip| chip.write(0, 1)),
+            self.answer_of(|chip| chip.block_write(0, 1)),
         ]
     }
 

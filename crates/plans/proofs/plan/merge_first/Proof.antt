@@ -6,9 +6,10 @@ use Rattle.plans.proofs.plan.merge_first.Tie as tie
 
 returns : tie.Need-returns
 returns c =
-    let start : tie.Start = search (c) in
+    let anew : tie.After-by = search (c) in
+    let start : tie.Start = search (anew) in
     let a = start .args in
-    merge-plan (a .s) (recordsIn (a .list .now)) (start .pre .1) (a .l) (start .pre .2) (c .free-after .ensures)
+    merge-plan (a .s) (recordsIn (a .list .now)) (start .pre .1) (a .l) (start .pre .2) (anew .by .ensures) (c .free-after .ensures)
 
 pub merge-first-spec : {M : Type 1} → statement M
-merge-first-spec = tie.close (tie.spec (λ c κs. search needs) returns)
+merge-first-spec = tie.close (tie.spec (λ c κs. search needs) (λ c κs. search needs) returns)

@@ -3,16 +3,9 @@ use lib.ListN.{length}
 use borrow.Author.Needs.{needs}
 use Rattle.rules.specs.Facts.{imageOf}
 use Rattle.words.specs.Words.{recordsIn}
-use Rattle.carry.proofs.Copying.{within-kept, merge-ran}
-use Rattle.carry.proofs.merge.Statement.{statement}
-use Rattle.carry.proofs.merge.Tie as tie
-
-copy-all-requires : tie.Need-copy-all-requires
-copy-all-requires c κs =
-    let start : tie.Start = search (c) in
-    let pre = start .pre in
-    let able = pre .2 in
-    (pre .0, pre .1, able .merged-small, able .into-below (pre .3), able .kept (pre .3), pre .4)
+use Rattle.carry.proofs.Copying.{within-kept, renew-ran}
+use Rattle.carry.proofs.renew.Statement.{statement}
+use Rattle.carry.proofs.renew.Tie as tie
 
 erase-found-requires : tie.Need-erase-found-requires
 erase-found-requires c κs = search needs
@@ -39,11 +32,10 @@ returns c =
     let copied : tie.After-copy-all = search (cleared) in
     let start : tie.Start = search (copied) in
     let a = start .args in
-    merge-ran (a .s) (imageOf (a .bytes .now) (a .spare .now)) (recordsIn (a .list .now)) (a .p) (copied .copy-all .ensures)
+    renew-ran (a .s) (imageOf (a .bytes .now) (a .spare .now)) (recordsIn (a .list .now)) (a .r) (a .block .now) (copied .copy-all .ensures)
     (cleared .erase-found .ensures) (done .erase-found2 .ensures)
 
-pub merge-spec : {M : Type 1} → statement M
-merge-spec =
+pub renew-spec : {M : Type 1} → statement M
+renew-spec =
     tie.close
-    (tie.spec (λ c. search needs) copy-all-requires erase-found-requires erase-found-requires-2 same-length
-    (λ c. search needs) returns)
+    (tie.spec (λ c κs. search needs) erase-found-requires erase-found-requires-2 same-length (λ c. search needs) returns)
