@@ -5,9 +5,10 @@
  * becomes L x P numbered pages of 512 bytes that survive a card pulled out between
  * any two steps: a page programmed, a block erased. What a chip does when power
  * fails inside a step is not covered. The rules are those of document 01, and of
- * document 02, request (i), for the block write; "8", "power-up" or "live" in the
- * comments here mean what they mean there. The functions are total: any shape, any
- * length and any bytes have an answer. They are proved for a size_t of 64 bits.
+ * document 02, request (i) for the block write and (ii) for bad blocks; "8",
+ * "power-up" or "live" in the comments here mean what they mean there. The functions
+ * are total: any shape, any length and any bytes have an answer. They are proved for
+ * a size_t of 64 bits.
  *
  * In short:
  *
@@ -41,6 +42,15 @@
  *
  * B is 3 to 64 and follows from the lengths. The shape is not stored on the chip:
  * give every command of a card the same P, L and K.
+ *
+ * Bad blocks:
+ *
+ *   A block is bad when spare byte 5 of its page 0 or of its page 1 is not 255, the
+ *   maker's mark. (P is at least 2: every block has a page 1.) It is never programmed
+ *   or erased, and what it holds counts for nothing. The layer used to look at page 0
+ *   alone: a block in use that has such a byte on page 1 now drops out of the card,
+ *   with what it held. `card check` names such blocks: run it on every card that was
+ *   formatted earlier before it gets this library.
  *
  * What is lent:
  *
@@ -114,7 +124,7 @@ enum hamutsigra_answer {
     HAMUTSIGRA_WRONG_BUFFER = 2,
     /* Logical page or logical block out of range. */
     HAMUTSIGRA_OUT_OF_RANGE = 3,
-    /* Fewer good blocks than L + K + 1. */
+    /* Fewer good blocks than L + K + 1: those that are not bad. */
     HAMUTSIGRA_TOO_FEW_BLOCKS = 4,
     /* The image is not well-formed: W1 to W7 not all true. */
     HAMUTSIGRA_ILL_FORMED = 5,

@@ -1,7 +1,7 @@
-//! Plants faults: makes six copies of the second program, each with one sentence
-//! put wrong. They are the five mistakes that document 01 names, and one that only a
-//! block write can show; they are there to show that the comparison finds them. The
-//! second program itself stays as it is.
+//! Plants faults: makes seven copies of the second program, each with one sentence
+//! put wrong. They are the five mistakes that document 01 names, one that only a block
+//! write can show, and one that only a mark on a second page can show; they are there
+//! to show that the comparison finds them. The second program itself stays as it is.
 
 use std::env;
 use std::fmt::Write;
@@ -19,7 +19,7 @@ struct Fault {
     wrong: &'static str,
 }
 
-const FAULTS: [Fault; 6] = [
+const FAULTS: [Fault; 7] = [
     // "Taking the first copy in a log block for the newest."
     Fault {
         name: "first_copy",
@@ -79,6 +79,13 @@ const FAULTS: [Fault; 6] = [
         plan.erase_data_block(l);
     }
 ",
+    },
+    // Looking for the maker's mark on the first page of a block alone.
+    Fault {
+        name: "first_page_alone",
+        file: "card.rs",
+        right: "const MARK_PAGES: [usize; 2] = [0, 1];",
+        wrong: "const MARK_PAGES: [usize; 1] = [0];",
     },
 ];
 

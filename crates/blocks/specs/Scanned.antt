@@ -9,10 +9,14 @@ use Rattle.rules.specs.declared.block.State.{State}
 use Rattle.rules.specs.declared.block.State.the-variants.{Bad, Free, Ill}
 use Rattle.rules.specs.Page.{Image}
 use Rattle.rules.specs.Facts.{imageOf}
-use Rattle.rules.specs.WellFormed.{Blocks, notUsed, allErased, isBad, pagesOf}
+use Rattle.rules.specs.WellFormed.{Blocks, notUsed, allErased, isMarked, isBad, pagesOf}
 use Rattle.words.specs.Words.{recordsIn, wordsOf}
 
--- r says whether block b is bad, whatever the data bytes are
+-- r says whether page i of block b carries the mark, whatever the data bytes are
+abbrev pub TellsMark : Shape → List ℕ → ℕ → ℕ → Bool → Type 0
+TellsMark s spare b i r = (bytes : List ℕ) → r ≡ isMarked s (imageOf bytes spare) b i
+
+-- whether block b is bad
 abbrev pub TellsBad : Shape → List ℕ → ℕ → Bool → Type 0
 TellsBad s spare b r = (bytes : List ℕ) → r ≡ isBad s (imageOf bytes spare) b
 

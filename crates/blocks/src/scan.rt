@@ -5,7 +5,7 @@ ghost use lib.ListN.{length, replicate};
 ghost use Rattle.rules.specs.Shape.{most};
 ghost use Rattle.rules.specs.Facts.{Limits, Within, imageOf};
 ghost use Rattle.rules.specs.WellFormed.{allErased, pagesOf, blockAt, blocksOf};
-ghost use Rattle.blocks.specs.Scanned.{TellsBad, Scanned, useAt, usesOf};
+ghost use Rattle.blocks.specs.Scanned.{TellsMark, TellsBad, Scanned, useAt, usesOf};
 use super::record;
 use nand::page;
 use nand::spare::bad_mark;
@@ -14,13 +14,23 @@ use rules::block::State;
 use rules::shape::MOST;
 use rules::shape::Shape;
 
-// Whether block b is bad.
+// Whether page i of block b carries the mark of a bad block.
+fn is_marked(spare: &[u8], s: Shape, b: usize, i: usize) -> bool
+    requires { ⌜ Limits s × (length (now spare) ≡ s .blocks * s .pages * 16) × (b < s .blocks) × (i < s .pages) ⌝ }
+    ensures { λ r. ⌜ TellsMark s (now (spare .entry)) b i r ⌝ }
+{
+    let at = s.page_spare(s.page_no(b, i));
+    bad_mark(&spare[at..at + 16])
+}
+
+// Whether block b is bad: the one place where the mark is looked for.
 fn is_bad(spare: &[u8], s: Shape, b: usize) -> bool
     requires { ⌜ Limits s × (length (now spare) ≡ s .blocks * s .pages * 16) × (b < s .blocks) ⌝ }
     ensures { λ r. ⌜ TellsBad s (now (spare .entry)) b r ⌝ }
 {
-    let at = s.page_spare(s.page_no(b, 0));
-    bad_mark(&spare[at..at + 16])
+    let first = is_marked(spare, s, b, 0);
+    let second = is_marked(spare, s, b, 1);
+    first || second
 }
 
 // The record of block b.

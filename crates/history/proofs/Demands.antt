@@ -20,8 +20,8 @@ use Rattle.rules.specs.Replies.{firstRefusal, writingTests, formatRefusal, form
 use Rattle.laws.proofs.Tests.{chain-each, eq→eqb}
 use Rattle.laws.proofs.Roles.{Recovered, taken-free}
 use Rattle.history.specs.History.{Command, read, write, blockWrite, powerUp, replyTo, Event, History, format, formattedImage, end, shape, events, pageAfter, lastFrom, lastWrite, writesIn, cutsIn, erasesIn, FallIn, stepsIn, neverTwice, FindErased, leftAlone}
-use Rattle.history.specs.Demands.{CountsAreOfTheSteps, ReadsTheLastWrite, OneMoreCommand, OnAnyImage, LendsWhatIsRead, NeverProgrammedTwice, BadBlocksStay, StaysWellFormed, AtMostTwiceTheWrites, FewLogicalBlocks, ShortLists, BlockWriteLists, RecoveredCard, WriteIsTaken, BlockWriteIsTaken, PowerUpRecovers, TableOfTheImageLeft, WriteLeavesRecovered, BlockWriteLeavesRecovered, ThereIsAFreeBlock, AFreeBlockAfterTheMerge}
-use Rattle.laws.proofs.Along.{AllAllowed, allowed-append}
+use Rattle.history.specs.Demands.{CountsAreOfTheSteps, ReadsTheLastWrite, OneMoreCommand, OnAnyImage, LendsWhatIsRead, NeverProgrammedTwice, BadBlocksStay, SameBadBlocks, StaysWellFormed, AtMostTwiceTheWrites, FewLogicalBlocks, ShortLists, BlockWriteLists, RecoveredCard, WriteIsTaken, BlockWriteIsTaken, PowerUpRecovers, TableOfTheImageLeft, WriteLeavesRecovered, BlockWriteLeavesRecovered, ThereIsAFreeBlock, AFreeBlockAfterTheMerge}
+use Rattle.laws.proofs.Along.{AllAllowed, allowed-take, allowed-append}
 use Rattle.laws.proofs.Erasing.{Sound, contentOf, SamePlaces}
 use Rattle.laws.proofs.Renewal.{renewal-programs, renewal-erases}
 use Rattle.laws.proofs.Cases.{write-cases}
@@ -33,7 +33,7 @@ use Rattle.history.proofs.BlockWrite.{block-write-is, block-write-ok}
 use Rattle.history.proofs.Answers.{counts-told, sound-5, card-of, of-card, write-taken, block-write-taken, read-taken, powerUp-taken, powerUp-refusal, read-refusal, writing-refusal, done-number, answered-0}
 use Rattle.history.proofs.Outcome.{powerUp-cut, powerUp-end, taken-plan, outcome}
 use Rattle.history.proofs.Format.{JustFormatted, format-done}
-use Rattle.history.proofs.Programs.{find-erased, never-twice, bad-alone}
+use Rattle.history.proofs.Programs.{find-erased, never-twice, steps-bad, bad-alone}
 use Rattle.history.proofs.Histories.{after, eventsOf, one-shape, sound-after, holds-after, allowed-after, wear, wear-few}
 
 -- ---- a history, for the one shape that its commands find
@@ -134,6 +134,12 @@ pub bad-blocks-stay : BadBlocksStay
 bad-blocks-stay h b =
     by-shape h (λ z im es. T (isBad z (h .given) b) → T (leftAlone z b (format h .steps ++ stepsIn es)))
     (bad-alone (s h) b (format h .steps ++ stepsIn (es h)) (h .given) (start h .fits) (all-allowed h))
+
+pub same-bad-blocks : SameBadBlocks
+same-bad-blocks h b k =
+    by-shape h (λ z im es. isBad z (stepsDone z (take k (format h .steps ++ stepsIn es)) (h .given)) b ≡ isBad z (h .given) b)
+    (steps-bad (s h) b (take k (format h .steps ++ stepsIn (es h))) (h .given) (start h .fits)
+    (allowed-take (s h) k (format h .steps ++ stepsIn (es h)) (h .given) (all-allowed h)))
 
 -- the number of an answer is that of the refusal, or 8
 number-cases : (n cut : ℕ) (ts : List Step)

@@ -1,21 +1,21 @@
--- Of steps that are each allowed where they are done: no page is programmed twice between erases, and none is of a bad block.
-use mathlib.Core.Path.{_≡_, refl, sym, subst}
+-- Of steps that are each allowed where they are done: no page is programmed twice between erases, none is of a bad block, and bad blocks stay bad
+-- and good ones good.
+use mathlib.Core.Path.{_≡_, refl, sym, subst, _∙_}
 use mathlib.Core.Logic.{_≢_, inl, inr}
 use mathlib.Core.Bool.{not, _&&_}
 use mathlib.Core.List.{List, [], _∷_}
 use Prim.Native.Nat.{ℕ, _/_, _%_}
-use native.Mathlib.Omega.{arith}
 use lib.Dec.{T, eqb, eqb→eq, T-not, not-T}
 use Rattle.rules.specs.declared.shape.Shape.{Shape}
 use Rattle.rules.specs.Bytes.{all255}
 use Rattle.rules.specs.Page.{Image, pageBytes, pageSpare, erased}
 use Rattle.rules.specs.WellFormed.{isBad}
-use Rattle.rules.specs.Steps.{Step, program, erase, stepDone}
+use Rattle.rules.specs.Steps.{Step, program, erase, stepDone, stepsDone}
 use Rattle.rules.specs.Facts.{Fits}
-use Rattle.laws.proofs.Tests.{and-l, and-r, and-i, or-e, dec-eq, eq→eqb, ne→eqb}
+use Rattle.laws.proofs.Tests.{is-false, and-l, and-r, and-i, or-e, dec-eq, eq→eqb, ne→eqb}
 use Rattle.laws.proofs.Shape.{pageNo-of, page-place-below}
 use Rattle.laws.proofs.Pages.{SamePage, program-fits, program-page, program-other, erase-fits, erase-other, StepIn, stepBlock, step-fits, step-other}
-use Rattle.laws.proofs.Blocks.{isBad-same}
+use Rattle.laws.proofs.Blocks.{isBad-same, erase-good, program-good}
 use Rattle.history.specs.History.{again, neverTwice, FindErased, leftAlone}
 use Rattle.laws.proofs.Along.{Fresh, Allowed, AllAllowed}
 
@@ -79,15 +79,32 @@ leftAlone-cons : (s : Shape) (b : ℕ) (x : Step) (ts : List Step) → leftAlone
 leftAlone-cons s b (program p d t) ts = refl
 leftAlone-cons s b (erase j) ts = refl
 
--- b stays bad, since no step changes its status byte
+-- a step leaves bad blocks bad and good ones good
+step-bad : (s : Shape) (x : Step) (im : Image) → Fits s im → Allowed s x im → (b : ℕ) → isBad s (stepDone s x im) b ≡ isBad s im b
+step-bad s x im w a b =
+    elim (dec-eq b (stepBlock s x)) [
+      | inl z ↦
+          let f : T (isBad s im b) → ⊥ = λ t. allowed-good s x im a .1 (subst (λ (j : ℕ). T (isBad s im j)) z t) in
+          is-false (isBad s (stepDone s x im) b) (stays-good x a z f) ∙ sym (is-false (isBad s im b) f)
+      | inr n ↦
+          isBad-same s b (w .limits .pages-low) (stepDone s x im) im (λ i h. step-other s im w x (allowed-good s x im a .0) b i n h)
+    ]
+  where
+    stays-good : (x : Step) → Allowed s x im → b ≡ stepBlock s x → (T (isBad s im b) → ⊥) → T (isBad s (stepDone s x im) b) → ⊥
+    stays-good (program p d t) a z f = program-good s im w (a .page) (a .status) b f
+    stays-good (erase j) a z f = subst (λ (k : ℕ). T (isBad s (stepDone s (erase j) im) k) → ⊥) (sym z) (erase-good s im w j (a .below))
+
+pub steps-bad : (s : Shape) (b : ℕ) (ts : List Step) (im : Image) → Fits s im → AllAllowed s ts im → isBad s (stepsDone s ts im) b ≡ isBad s im b
+unfolding stepsDone
+steps-bad s b [] im w a = refl
+steps-bad s b (x ∷ ts) im w a =
+    steps-bad s b ts (stepDone s x im) (step-fits s im w x (allowed-good s x im (a .0) .0)) (a .1) ∙ step-bad s x im w (a .0) b
+
 pub bad-alone : (s : Shape) (b : ℕ) (ts : List Step) (im : Image) → Fits s im → AllAllowed s ts im → T (isBad s im b) → T (leftAlone s b ts)
 bad-alone s b [] im w a t = tt
 bad-alone s b (x ∷ ts) im w a t =
     let g = allowed-good s x im (a .0) in
-    let n : b ≢ stepBlock s x = λ e. g .1 (subst (λ (j : ℕ). T (isBad s im j)) e t) in
-    let im′ : Image = stepDone s x im in
-    let t′ : T (isBad s im′ b) =
-    subst T (sym (isBad-same s im′ im b (step-other s im w x (g .0) b 0 n (omega (arith, w .limits .pages-low))))) t in
+    let n : stepBlock s x ≢ b = λ e. g .1 (subst (λ (j : ℕ). T (isBad s im j)) (sym e) t) in
     subst T (sym (leftAlone-cons s b x ts))
-    (and-i (not (eqb (stepBlock s x) b)) (leftAlone s b ts) (not-T (eqb (stepBlock s x) b) (ne→eqb (stepBlock s x) b (λ e. n (sym e))))
-    (bad-alone s b ts im′ (step-fits s im w x (g .0)) (a .1) t′))
+    (and-i (not (eqb (stepBlock s x) b)) (leftAlone s b ts) (not-T (eqb (stepBlock s x) b) (ne→eqb (stepBlock s x) b n))
+    (bad-alone s b ts (stepDone s x im) (step-fits s im w x (g .0)) (a .1) (subst T (sym (step-bad s x im w (a .0) b)) t)))

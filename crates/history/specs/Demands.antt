@@ -5,7 +5,7 @@ use mathlib.Core.Bool.{Bool}
 use mathlib.Core.List.{List}
 use Prim.Native.Nat.{ℕ, _+_, _*_, _/_, _≤_}
 use lib.Dec.{T, ltb}
-use lib.ListN.{length}
+use lib.ListN.{length, take}
 use Rattle.rules.specs.declared.shape.Shape.{Shape}
 use Rattle.rules.specs.declared.place.Place.the-variants.{At}
 use Rattle.rules.specs.Below.{countBelow}
@@ -52,6 +52,11 @@ NeverProgrammedTwice = (h : History) → T (neverTwice (shape h) (allSteps h)) �
 -- Bad blocks are never programmed or erased, by the format or by any command after it.
 abbrev pub BadBlocksStay : Type 0
 BadBlocksStay = (h : History) (b : ℕ) → T (isBad (shape h) (h .given) b) → T (leftAlone (shape h) b (allSteps h))
+
+-- No program or erase makes a good block bad or a bad one good: after the first k steps of a history those blocks are bad that were so when it began.
+abbrev pub SameBadBlocks : Type 0
+SameBadBlocks =
+    (h : History) (b k : ℕ) → isBad (shape h) (stepsDone (shape h) (take k (allSteps h)) (h .given)) b ≡ isBad (shape h) (h .given) b
 
 -- After every history the image is well-formed, and no command is answered 1, 4 or 5.
 abbrev pub StaysWellFormed : Type 0

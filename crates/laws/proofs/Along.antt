@@ -9,6 +9,7 @@ use lib.Seq.{take-all}
 use lib.Dec.{T}
 use Rattle.rules.specs.declared.shape.Shape.{Shape}
 use Rattle.rules.specs.Bytes.{all255}
+use Rattle.rules.specs.Spare.{statusIn}
 use Rattle.rules.specs.Page.{Image, pageBytes, pageSpare, erased}
 use Rattle.rules.specs.WellFormed.{isBad}
 use Rattle.rules.specs.Steps.{Step, program, erase, stepDone, stepsDone, programs, erases}
@@ -16,12 +17,13 @@ use Rattle.laws.proofs.Pages.{Programs}
 
 -- ---- allowed steps
 
--- a program is of a page of the card that is erased, in a good block, and leaves it programmed
+-- a program is of a page of the card that is erased, in a good block, and leaves it programmed, without the mark of a bad block
 pub record Fresh (s : Shape) (im : Image) (p : ℕ) (d t : List ℕ) : Type 0 where
   pub page : Programs s p d t
   pub erased : T (erased (pageBytes im p) (pageSpare im p))
   pub good : T (isBad s im (p / s .pages)) → ⊥
   pub programmed : T (all255 t) → ⊥
+  pub status : statusIn t ≡ 255
 
 -- an erase is of a good block of the card
 pub record Wipes (s : Shape) (im : Image) (b : ℕ) : Type 0 where

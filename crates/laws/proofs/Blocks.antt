@@ -18,10 +18,10 @@ use Rattle.rules.specs.Below.{allBelow, listBelow}
 use Rattle.rules.specs.Spare.{numberLimit, copyKind, numberIn, kindIn, statusIn, addressIn, spareBytes}
 use Rattle.rules.specs.Shape.{pageNo, blockOf, offsetOf, logicalPage, inRange}
 use Rattle.rules.specs.Page.{Image, pageBytes, pageSpare, pageAt, isEntry, numberOf, kindOf, addressOf}
-use Rattle.rules.specs.WellFormed.{notUsed, inOrder, goodBlock, isBad, pagesOf, blockAt, blocksOf, isGood, isUsed, isFree}
-use Rattle.rules.specs.Steps.{Step, erase, stepDone, stepsDone, entryStep, copyStep}
+use Rattle.rules.specs.WellFormed.{notUsed, inOrder, goodBlock, badMark, isMarked, isBad, pagesOf, blockAt, blocksOf, isGood, isUsed, isFree}
+use Rattle.rules.specs.Steps.{Step, program, erase, stepDone, stepsDone, entryStep, copyStep}
 use Rattle.rules.specs.Facts.{Fits}
-use Rattle.laws.proofs.Tests.{tcase, is-true, and-i, dec-eq, dec-lt, eq→eqb}
+use Rattle.laws.proofs.Tests.{is-true, bool-ext, and-i, or-l, or-r, or-e, dec-eq, dec-lt, eq→eqb}
 use Rattle.laws.proofs.Below.{All, allBelow-at, listBelow-same}
 use Rattle.laws.proofs.Filled.{Filled, usedWith, free-goodBlock, filled-goodBlock, UsedPages, goodBlock-free, goodBlock-used, NextPage, PageAdded, filled-more, inOrder-more}
 use Rattle.laws.proofs.Records.{blocksOf-at, blocksOf-outside, pagesOf-at, blockAt-bad, blockAt-good}
@@ -29,6 +29,32 @@ use Rattle.laws.proofs.Shape.{pageNo-below, pageNo-same-block, pageNo-s
 use Rattle.laws.proofs.Spare.{Kind, InTable, spareBytes-length, spareBytes-status}
 use Rattle.laws.proofs.Roles.{used-good, free-good}
 use Rattle.laws.proofs.Pages.{SamePage, samePage-then, pageAt-is, pageAt-same, pageOf-spareBytes, pageOf-isEntry, Programs, program-fits, program-page, program-other, erase-fits, erase-page, erase-pageAt, StepIn, stepBlock, step-other, StepsIn, Apart, steps-other, stepsDone-append}
+
+-- ---- the mark of a bad block
+
+status-unmarked : (t : List ℕ) → statusIn t ≡ 255 → T (badMark t) → ⊥
+status-unmarked t e u = T-not (eqb (statusIn t) 255) u (eq→eqb _ _ e)
+
+-- Every page that may carry it is one of the block's, since a block has at least two.
+module _ (s : Shape) (b : ℕ) (two : 2 ≤ s .pages) where
+  unmarked-good : (im : Image) → ((i : ℕ) → i < s .pages → T (isMarked s im b i) → ⊥) → T (isBad s im b) → ⊥
+  unfolding isBad
+  unmarked-good im h t =
+      elim (or-e (isMarked s im b 0) (isMarked s im b 1) t) [ inl u ↦ h 0 (omega (arith, two)) u | inr u ↦ h 1 (omega (arith, two)) u ]
+
+  -- what is bad stays so where its marks stay
+  marks-kept : (im im′ : Image) → ((i : ℕ) → i < s .pages → T (isMarked s im b i) → T (isMarked s im′ b i)) → T (isBad s im b) → T (isBad s im′ b)
+  unfolding isBad
+  marks-kept im im′ h t =
+      elim (or-e (isMarked s im b 0) (isMarked s im b 1) t) [
+        | inl u ↦ or-l (isMarked s im′ b 0) (isMarked s im′ b 1) (h 0 (omega (arith, two)) u)
+        | inr u ↦ or-r (isMarked s im′ b 0) (isMarked s im′ b 1) (h 1 (omega (arith, two)) u)
+      ]
+
+  pub isBad-same : (im im′ : Image) → ((i : ℕ) → i < s .pages → SamePage im im′ (pageNo s b i)) → isBad s im b ≡ isBad s im′ b
+  isBad-same im im′ h =
+      bool-ext (isBad s im b) (isBad s im′ b) (marks-kept im im′ (λ i k. subst (λ (t : List ℕ). T (badMark t)) (h i k .spare-are)))
+      (marks-kept im′ im (λ i k. subst (λ (t : List ℕ). T (badMark t)) (sym (h i k .spare-are))))
 
 -- ---- a block of an image
 
@@ -38,16 +64,6 @@ pub record BlockFilled (s : Shape) (im : Image) (b n k l m : ℕ) : Type 0 where
   pub pages : Filled s (pagesOf s im b) n k l m
 
 module _ (s : Shape) (im : Image) (b : ℕ) where
-  pub good-status : (T (isBad s im b) → ⊥) → statusIn (pageSpare im (pageNo s b 0)) ≡ 255
-  unfolding isBad
-  good-status f =
-      let status : ℕ = statusIn (pageSpare im (pageNo s b 0)) in
-      elim (tcase (eqb status 255)) [ inl t ↦ eqb→eq status 255 t | inr t ↦ absurd (f t) ]
-
-  pub status-good : statusIn (pageSpare im (pageNo s b 0)) ≡ 255 → T (isBad s im b) → ⊥
-  unfolding isBad
-  status-good e t = T-not (eqb (statusIn (pageSpare im (pageNo s b 0))) 255) t (eq→eqb _ _ e)
-
   pub filled-blockAt : {n k l m : ℕ} → BlockFilled s im b n k l m → 0 < m → blockAt s im b ≡ usedWith n k l m (inOrder s (pagesOf s im b) m)
   filled-blockAt f h = blockAt-good s im b (f .good) ∙ filled-goodBlock s (pagesOf s im b) (f .pages) h
 
@@ -93,14 +109,10 @@ module _ (s : Shape) (im im′ : Image) where
       ap (λ (read : List Page). λ (i : ℕ). getD read i Erased)
       (listBelow-same (s .pages) (λ i. pageAt im (pageNo s b i)) (λ i. pageAt im′ (pageNo s b i)) h)
 
-  pub isBad-same : (b : ℕ) → SamePage im im′ (pageNo s b 0) → isBad s im b ≡ isBad s im′ b
-  unfolding isBad
-  isBad-same b h = ap (λ (t : List ℕ). not (eqb (statusIn t) 255)) (h .spare-are)
-
-  pub blockAt-same : 0 < s .pages → (b : ℕ) → ((i : ℕ) → i < s .pages → SamePage im im′ (pageNo s b i)) → blockAt s im b ≡ blockAt s im′ b
+  pub blockAt-same : 2 ≤ s .pages → (b : ℕ) → ((i : ℕ) → i < s .pages → SamePage im im′ (pageNo s b i)) → blockAt s im b ≡ blockAt s im′ b
   unfolding blockAt
   blockAt-same p b h =
-      let status : isBad s im b ≡ isBad s im′ b = isBad-same b (h 0 p) in
+      let status : isBad s im b ≡ isBad s im′ b = isBad-same s b p im im′ h in
       let pages : pagesOf s im b ≡ pagesOf s im′ b = pagesOf-same b (λ i k. pageAt-same im im′ (pageNo s b i) (h i k)) in
       cc
 
@@ -112,14 +124,31 @@ module _ (s : Shape) (im im′ : Image) where
       ]
 
 module _ (s : Shape) (im : Image) (w : Fits s im) where
-  some-pages : 0 < s .pages
-  some-pages = omega (arith, w .limits .pages-low)
+  two-pages : 2 ≤ s .pages
+  two-pages = w .limits .pages-low
 
   pub step-blockAt : (x : Step) → StepIn s x → (j : ℕ) → j ≢ stepBlock s x → blockAt s (stepDone s x im) j ≡ blockAt s im j
-  step-blockAt x g j ne = blockAt-same s (stepDone s x im) im some-pages j (λ i h. step-other s im w x g j i ne h)
+  step-blockAt x g j ne = blockAt-same s (stepDone s x im) im two-pages j (λ i h. step-other s im w x g j i ne h)
 
   pub steps-blockAt : (xs : List Step) → StepsIn s xs → (j : ℕ) → Apart s j xs → blockAt s (stepsDone s xs im) j ≡ blockAt s im j
-  steps-blockAt xs g j apart = blockAt-same s (stepsDone s xs im) im some-pages j (λ i h. steps-other s im w xs g j i apart h)
+  steps-blockAt xs g j apart = blockAt-same s (stepsDone s xs im) im two-pages j (λ i h. steps-other s im w xs g j i apart h)
+
+  -- an erase leaves no mark, and a program without one leaves good blocks good
+  pub erase-good : (b : ℕ) → b < s .blocks → T (isBad s (stepDone s (erase b) im) b) → ⊥
+  erase-good b hb =
+      let im′ : Image = stepDone s (erase b) im in
+      unmarked-good s b two-pages im′ (λ i h. status-unmarked (pageSpare im′ (pageNo s b i)) (ap statusIn (erase-page s im w b hb i h .spare-are)))
+
+  pub program-good : {p : ℕ} {d t : List ℕ} → Programs s p d t → statusIn t ≡ 255 → (b : ℕ) → (T (isBad s im b) → ⊥)
+      → T (isBad s (stepDone s (program p d t) im) b) → ⊥
+  program-good {p} {d} {t} q e b f u =
+      let im′ : Image = stepDone s (program p d t) im in
+      let here : statusIn (pageSpare im′ p) ≡ 255 = ap statusIn (program-page s im w q .spare-are) ∙ e in
+      f (marks-kept s b two-pages im′ im (λ i h v.
+      elim (dec-eq (pageNo s b i) p) [
+        | inl z ↦ absurd (status-unmarked (pageSpare im′ (pageNo s b i)) (ap (λ (j : ℕ). statusIn (pageSpare im′ j)) z ∙ here) v)
+        | inr ne ↦ subst (λ (x : List ℕ). T (badMark x)) (program-other s im w q (pageNo s b i) ne .spare-are) v
+      ]) u)
 
 -- ---- blocks that are erased
 
@@ -127,8 +156,7 @@ module _ (s : Shape) (im : Image) (w : Fits s im) (b : ℕ) (hb : b < s .blocks)
   pub erase-blockAt : blockAt s (stepDone s (erase b) im) b ≡ notUsed Free
   erase-blockAt =
       let im′ : Image = stepDone s (erase b) im in
-      let status : statusIn (pageSpare im′ (pageNo s b 0)) ≡ 255 = ap statusIn (erase-page s im w b hb 0 (some-pages s im w) .spare-are) in
-      blockAt-good s im′ b (status-good s im′ b status)
+      blockAt-good s im′ b (erase-good s im w b hb)
       ∙ free-goodBlock s (pagesOf s im′ b) (λ i h. pagesOf-at s im′ b i h ∙ erase-pageAt s im w b hb i h)
 
   -- a free block stays free
@@ -198,20 +226,13 @@ module _ (s : Shape) (im : Image) (w : Fits s im) (b : ℕ) (hb : b < s .blocks)
         others = λ i h ne. pagesOf-at s after b i h ∙ pageAt-same after im (pageNo s b i) (other i h ne) ∙ sym (pagesOf-at s im b i h);
       }
 
-  status : statusIn (pageSpare after (pageNo s b 0)) ≡ 255
-  unfolding after
-  status =
-      elim (dec-eq 0 m) [
-        | inl z ↦
-            ap (λ (i : ℕ). statusIn (pageSpare after (pageNo s b i))) z ∙ ap statusIn (program-page s im w programs .spare-are)
-            ∙ spareBytes-status n k a
-        | inr z ↦ ap statusIn (other 0 (omega (arith, x .room)) z .spare-are) ∙ good-status s im b (f .good)
-      ]
-
   pub program-blockFilled : BlockFilled s (stepDone s (entryStep (pageNo s b m) n k a d) im) b n k l (m + 1)
   unfolding after
   program-blockFilled =
-      record { good = status-good s after b status; pages = filled-more s (pagesOf s im b) (pagesOf s after b) (f .pages) x added }
+      record {
+        good = program-good s im w programs (spareBytes-status n k a) b (f .good);
+        pages = filled-more s (pagesOf s im b) (pagesOf s after b) (f .pages) x added;
+      }
 
   pub program-inOrder : inOrder s (pagesOf s (stepDone s (entryStep (pageNo s b m) n k a d) im) b) (m + 1)
       ≡ (inOrder s (pagesOf s im b) m && eqb (offsetOf s a) m)
@@ -256,7 +277,7 @@ module _ (s : Shape) (im : Image) (w : Fits s im) (b : ℕ) (hb : b < s .blocks)
 
   ready-used : (x : Block) → blockAt s im b ≡ x → T (isUsed (x .state)) → x .number ≡ n → x .kind ≡ k → x .logical ≡ blockOf s a → Ready x
   ready-used x is t number kind logical =
-      let p : 0 < s .pages = some-pages s im w in
+      let p : 0 < s .pages = omega (arith, two-pages s im w) in
       let t′ : T (isUsed (blockAt s im b .state)) = subst (λ (y : Block). T (isUsed (y .state))) (sym is) t in
       let u : UsedPages s (pagesOf s im b) x = subst (UsedPages s (pagesOf s im b)) is (used-usedPages s im b p t′) in
       let f : BlockFilled s im b (x .number) (x .kind) (x .logical) (x .filled) =

@@ -22,7 +22,7 @@ use Rattle.rules.specs.Facts.{Fits}
 use Rattle.laws.proofs.Tests.{false-is}
 use Rattle.laws.proofs.Below.{listBelow-zero, listBelow-suc}
 use Rattle.laws.proofs.Shape.{pageNo-below, pageNo-block}
-use Rattle.laws.proofs.Spare.{spareBytes-length, spareBytes-not-255}
+use Rattle.laws.proofs.Spare.{spareBytes-length, spareBytes-status, spareBytes-not-255}
 use Rattle.laws.proofs.Pages.{stepsDone-append}
 use Rattle.laws.proofs.Records.{blocksOf-at, pagesOf-at}
 use Rattle.laws.proofs.Filled.{usedWith}
@@ -98,7 +98,7 @@ module _ (s : Shape) (fb n l : ℕ) (page : ℕ → List ℕ) where
           fits = q .fits;
           blocks =
               blocks-changed s im (copied m im) fb (copyRecord m) below (record-at m h)
-              (λ j ne. blockAt-same s (copied m im) im (omega (arith, w .limits .pages-low)) j (λ i k. q .others j i ne k));
+              (λ j ne. blockAt-same s (copied m im) im (w .limits .pages-low) j (λ i k. q .others j i ne k));
           others = λ j ne i k. let o = q .others j i ne k in (o .bytes-are, o .spare-are);
           pages = q .bytes;
           next = λ k. record {
@@ -111,6 +111,7 @@ module _ (s : Shape) (fb n l : ℕ) (page : ℕ → List ℕ) where
             erased = pageAt-erased (copied m im) (pageNo s fb m) (sym (pagesOf-at s (copied m im) fb m k) ∙ q .filled .pages .blank m (le-refl m) k);
             good = λ t. q .filled .good (subst (λ (b : ℕ). T (isBad s (copied m im) b)) (pageNo-block s fb m k) t);
             programmed = false-is (all255 (spareBytes n copyKind (logicalPage s l m))) (spareBytes-not-255 n copyKind (logicalPage s l m) (inr refl));
+            status = spareBytes-status n copyKind (logicalPage s l m);
           };
         }
 

@@ -21,7 +21,7 @@ use Rattle.rules.specs.Steps.{Step, erase, stepDone, entryStep}
 use Rattle.rules.specs.Facts.{Fits}
 use Rattle.laws.proofs.Tests.{false-is, dec-eq}
 use Rattle.laws.proofs.Shape.{pageNo-below, pageNo-block, pageNo-same-block, pageNo-same-place}
-use Rattle.laws.proofs.Spare.{spareBytes-length, spareBytes-address, spareBytes-not-255}
+use Rattle.laws.proofs.Spare.{spareBytes-length, spareBytes-status, spareBytes-address, spareBytes-not-255}
 use Rattle.laws.proofs.Pages.{pageOf-cases, Programs, program-fits, program-page, program-other, erase-fits, erase-other}
 use Rattle.laws.proofs.Roles.{good-below, used-good, free-good}
 use Rattle.laws.proofs.Records.{blocksOf-at, blocksOf-records}
@@ -141,7 +141,7 @@ module _ (s : Shape) (im : Image) (w : Fits s im) (b n k a : ℕ) (d : List ℕ)
         blocks =
             blocks-changed s im im′ b (oneMore s (blocksOf s im b) n k a) hb
             (program-blockAt s im w b hb e d long (blocksOf s im b) (sym (blocksOf-at s im b hb)) j)
-            (λ i ne. blockAt-same s im′ im (omega (arith, j .room)) i
+            (λ i ne. blockAt-same s im′ im (w .limits .pages-low) i
             (λ o h. program-other s im w page (pageNo s i o) (λ q. ne (pageNo-same-block s i b o f h (j .room) q))));
         others = λ i ne o h. let q = program-other s im w page (pageNo s i o) (λ q. ne (pageNo-same-block s i b o f h (j .room) q)) in
             (q .bytes-are, q .spare-are);
@@ -157,5 +157,6 @@ module _ (s : Shape) (im : Image) (w : Fits s im) (b n k a : ℕ) (d : List ℕ)
           good = λ t. good-not-bad s im w b good (subst (λ (i : ℕ). T (isBad s im i)) (pageNo-block s b f (j .room)) t);
           programmed =
               false-is (all255 (spareBytes n k a)) (spareBytes-not-255 n k a (e .kind));
+          status = spareBytes-status n k a;
         };
       }

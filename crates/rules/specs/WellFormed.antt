@@ -114,9 +114,13 @@ goodBlock s g = cond (allErased s g) (notUsed Free) (cond (W1to4 s g) (usedBlock
 abbrev pub badMark : List ℕ → Bool
 badMark t = not (eqb (statusIn t) 255)
 
--- A block is bad when byte 5 of its first page is not 255.
+-- page i of block b does
+abbrev pub isMarked : Shape → Image → ℕ → ℕ → Bool
+isMarked s im b i = badMark (pageSpare im (pageNo s b i))
+
+-- A block is bad when byte 5 of page 0 or of page 1 is not 255.
 unfoldable pub isBad : Shape → Image → ℕ → Bool
-isBad s im b = badMark (pageSpare im (pageNo s b 0))
+isBad s im b = isMarked s im b 0 || isMarked s im b 1
 
 -- the pages of block b, each read once
 unfoldable pub pagesOf : Shape → Image → ℕ → Pages

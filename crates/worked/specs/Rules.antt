@@ -1,7 +1,7 @@
 -- What document 01's own cases leave unseen: each of W1 to W7 broken, each role, each refusal and their order.
 use mathlib.Core.List.{List, [], _∷_, _++_}
 use Prim.Native.Nat.{ℕ}
-use Rattle.worked.specs.Rows.{Mark, entry, spareIs, dataIs, log, copy, Start, left, chip, plain, Call, format, powerUp, read, write, Did, p, e, Look, reads, bytes, spare, table, lent, unlent, filled, unchanged, Row}
+use Rattle.worked.specs.Rows.{Mark, entry, spareIs, dataIs, log, copy, Start, left, chip, plain, Call, format, powerUp, read, write, Did, p, e, Look, reads, bytes, spare, table, lent, unlent, got, filled, unchanged, Row}
 
 -- P 2, L 2; K 1 and B 4, or K 2 and B 5. Page p holds 512 bytes 100 + p where it is marked. A cut number of 9 cuts nothing.
 abbrev row : ℕ → Start → Call → ℕ → ℕ → ℕ → List Did → List Look → Row
@@ -32,22 +32,36 @@ allBad P n a = lengths 0 P 1 1 n n a
 abbrev base : List Mark
 base = copy 0 5 0 ∷ copy 1 5 1 ∷ []
 
+-- block 0 is a log block; block 1, else the data block of logical block 1, is bad by page 1
+abbrev secondMark : Start
+secondMark = chip 2 5 (log 0 1 0 ∷ copy 2 7 2 ∷ copy 3 7 3 ∷ spareIs 3 5 0 ∷ [])
+
 abbrev top : ℕ
 top = 4294967294
 
 abbrev pub rules : List Row
 rules =
+    -- bad by a mark on page 0, on page 1, on both: 4, where 4 good blocks are needed; not by one on page 2: 5
+    answers 1 4 4 (spareIs 6 5 0 ∷ [])
+    ∷ answers 1 4 4 (spareIs 7 5 254 ∷ [])
+    ∷ answers 1 4 4 (spareIs 6 5 127 ∷ spareIs 7 5 0 ∷ [])
+    ∷ answersAt 4 1 4 5 (spareIs 2 5 0 ∷ [])
+    -- what stands in a bad block counts for nothing: neither its address nor its number, and it is not taken; format and power-up leave it alone
+    ∷ row 1 secondMark (read 2 512) 0 0 0 [] (got 255 ∷ unlent 2 ∷ reads 0 100 ∷ [])
+    ∷ row 1 secondMark (write 2 512 9 9) 0 3 1 (p 4 ∷ p 5 ∷ e 0 ∷ p 0 ∷ []) (reads 2 9 ∷ spare 0 (3 ∷ 0 ∷ 0 ∷ 0 ∷ 240 ∷ 255 ∷ 2 ∷ 0 ∷ []) ∷ spare 2 (7 ∷ 0 ∷ 0 ∷ 0 ∷ 15 ∷ 255 ∷ 2 ∷ 0 ∷ []) ∷ [])
+    ∷ row 1 secondMark (powerUp 4 9) 0 0 0 [] (unchanged ∷ table (65535 ∷ 0 ∷ 65535 ∷ 65535 ∷ []) ∷ [])
+    ∷ row 1 secondMark (format 9) 0 0 1 (e 0 ∷ []) (bytes 2 102 ∷ spare 3 (7 ∷ 0 ∷ 0 ∷ 0 ∷ 15 ∷ 0 ∷ 3 ∷ 0 ∷ []) ∷ [])
     -- W1: a gap at page 0, and one after it
-    answers 1 4 5 (log 1 1 0 ∷ [])
+    ∷ answers 1 4 5 (log 1 1 0 ∷ [])
     ∷ answersAt 4 1 4 5 (log 0 1 0 ∷ log 2 1 1 ∷ [])
-    -- W2: a kind that is neither; numbers 0 and 4,294,967,295; the last eight bytes; the status of a second page; two kinds; two numbers
+    -- W2: a kind that is neither; numbers 0 and 4,294,967,295; the last eight bytes; the status of a third page; two kinds; two numbers
     ∷ answers 1 4 5 (entry 0 1 7 0 ∷ [])
     ∷ answers 1 4 5 (log 0 0 0 ∷ [])
     ∷ answers 1 4 5 (log 0 4294967295 0 ∷ [])
     ∷ answers 1 4 0 (log 0 top 0 ∷ [])
     ∷ answers 1 4 5 (log 0 1 0 ∷ spareIs 0 8 0 ∷ [])
     ∷ answers 1 4 5 (spareIs 0 15 0 ∷ [])
-    ∷ answers 1 4 5 (log 0 1 0 ∷ log 1 1 1 ∷ spareIs 1 5 0 ∷ [])
+    ∷ answersAt 4 1 4 5 (log 0 1 0 ∷ log 1 1 1 ∷ log 2 1 2 ∷ spareIs 2 5 0 ∷ [])
     ∷ answers 1 4 5 (log 0 1 0 ∷ copy 1 1 1 ∷ [])
     ∷ answers 1 4 5 (log 0 1 0 ∷ log 1 2 1 ∷ [])
     -- a page with blank spare bytes is erased only if its data bytes are so too, from the first to the last; format erases its block
@@ -66,6 +80,7 @@ rules =
     ∷ answers 2 5 5 (log 0 1 0 ∷ log 2 1 2 ∷ [])
     ∷ answers 1 4 5 (log 0 1 0 ∷ copy 2 1 2 ∷ [])
     ∷ answers 1 5 0 (log 0 1 0 ∷ copy 2 1 2 ∷ spareIs 2 5 0 ∷ [])
+    ∷ answers 1 5 0 (log 0 1 0 ∷ copy 2 1 2 ∷ spareIs 3 5 0 ∷ [])
     -- W6: two live log blocks of one logical block
     ∷ answers 2 5 5 (log 0 1 0 ∷ log 2 2 1 ∷ [])
     -- W7: two live log blocks, K 1 and K 2

@@ -3,6 +3,7 @@
 //! The answers are those of the layer, each command tried on a copy of the image;
 //! the reasons are what the second program sees (see `inspect`).
 
+use crate::bad::{self, Bad};
 use crate::commands;
 use crate::faults::{self, Fault};
 use crate::help::Verb;
@@ -38,6 +39,7 @@ struct Reasons {
     good: usize,
     blocks: usize,
     highest_number: u32,
+    bad: Vec<Bad>,
     faults: Vec<Fault>,
     /// The obsolete blocks, and how they came to be so.
     obsolete: Vec<(usize, &'static str)>,
@@ -150,6 +152,7 @@ impl Reasons {
             good: card.good_blocks(),
             blocks: card.blocks,
             highest_number: blocks.highest_number(),
+            bad: bad::of(card),
             faults: faults::of(card, &blocks),
             obsolete: obsolete(card, &blocks),
         }
@@ -162,6 +165,8 @@ impl Reasons {
             "{} of {} blocks are good; the highest sequence number is {} of {HIGHEST_NUMBER}",
             self.good, self.blocks, self.highest_number
         ));
+        let bad = bad::in_words(&self.bad);
+        lines.extend(broken_off(bad.iter().map(|line| paint.role(Role::Bad, line)).collect()));
         let faults = self.faults.iter().map(|fault| paint.role(Role::Broken, &fault.in_words()));
         lines.extend(broken_off(faults.collect()));
         let obsolete = self.obsolete.iter().map(|(block, origin)| {
@@ -187,6 +192,7 @@ impl Reasons {
             ("good_blocks", Json::number(self.good)),
             ("blocks", Json::number(self.blocks)),
             ("highest_number", Json::number(self.highest_number as usize)),
+            ("bad", Json::List(self.bad.iter().map(Bad::to_json).collect())),
             ("faults", Json::List(faults.collect())),
             ("obsolete", Json::numbers(obsolete)),
         ]
@@ -223,16 +229,19 @@ fn origin(card: &Card, used: &Used) -> &'static str {
 #[cfg(test)]
 mod tests {
     use super::*;
+    use second::spare::STATUS;
 
     #[test]
-    fn faults_and_obsolete_blocks_have_the_colours_of_the_map() {
+    fn bad_blocks_faults_and_obsolete_blocks_have_the_colours_of_the_map() {
         let mut image = Image::erased(16);
         image.spare[..8].copy_from_slice(&[1, 0, 0, 0, 99, 255, 0, 0]);
         image.spare[64..72].copy_from_slice(&[2, 0, 0, 0, 15, 255, 0, 0]);
+        image.spare[144 + STATUS] = 0;
         let checked = check(&image, 0, Shape { pages: 4, logical: 2, logs: 1 });
         let coloured = checked.in_words(Paint::Colour);
         assert!(coloured.contains("\x1b[37;45mblock 0: spare bytes not as in the table"));
         assert!(coloured.contains("\x1b[30;43mblock 1: obsolete, a copy"));
+        assert!(coloured.contains("\x1b[37;41mblock 2: bad, mark on page 1"));
         assert!(!checked.in_words(Paint::Plain).contains('\x1b'));
     }
 }

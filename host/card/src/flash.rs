@@ -41,7 +41,8 @@ fn meaning(bytes: &[u8; SPARE_BYTES], first: usize, last: usize) -> String {
     match (first, Spare::from_bytes(bytes)) {
         (0, _) => format!(" {}", spare::number(bytes)),
         (4, Some(entry)) => format!(": {}", spare::kind_name(entry.kind)),
-        (STATUS, _) => ": good".into(),
+        (STATUS, _) if bytes[STATUS] == 255 => ": no mark".into(),
+        (STATUS, _) => ": not 255".into(),
         (6, _) => format!(" {}", spare::logical_page(bytes)),
         _ => String::new(),
     }

@@ -3,6 +3,7 @@
 #![forbid(unsafe_code)]
 
 mod arguments;
+mod bad;
 mod check;
 mod commands;
 mod demo;

@@ -31,18 +31,19 @@ pub fn draw_with_summary(card: &Card, paint: Paint) -> String {
 pub fn draw(card: &Card, paint: Paint) -> String {
     let blocks = Blocks::on(card);
     let style = Style::of(card, &blocks, WIDTH);
-    let widest = drawn(&blocks, &style, Paint::Plain).lines().map(str::len).max().unwrap_or(0);
+    let plain = drawn(card, &blocks, &style, Paint::Plain);
+    let widest = plain.lines().map(str::len).max().unwrap_or(0);
     let style = Style::of(card, &blocks, WIDTH - widest.saturating_sub(WIDTH));
-    drawn(&blocks, &style, paint)
+    drawn(card, &blocks, &style, paint)
 }
 
-fn drawn(blocks: &Blocks, style: &Style, paint: Paint) -> String {
+fn drawn(card: &Card, blocks: &Blocks, style: &Style, paint: Paint) -> String {
     let in_breach: Vec<usize> =
         blocks.breaches().into_iter().flat_map(|breach| breach.blocks).collect();
     let numbered = blocks.iter().enumerate();
     let cells: Vec<Cell> = numbered
         .map(|(number, block)| {
-            Cell::new(number, block, blocks, style).marked_if(in_breach.contains(&number))
+            Cell::new(card, number, block, blocks, style).marked_if(in_breach.contains(&number))
         })
         .collect();
     table(&cells, style, paint).join("\n") + "\n"
@@ -131,10 +132,11 @@ struct Cell {
 }
 
 impl Cell {
-    fn new(number: usize, block: &Block, blocks: &Blocks, style: &Style) -> Cell {
+    fn new(card: &Card, number: usize, block: &Block, blocks: &Blocks, style: &Style) -> Cell {
         let role = blocks.role(block);
         let name = match block {
             Block::Broken(rule) => format!("BROKEN {rule}"),
+            Block::Bad => format!("BAD p{}", maker_marks(card, number)),
             _ => name(role).to_string(),
         };
         let of_used = |field: fn(&Used) -> String| used(block).map_or(String::new(), field);
@@ -156,6 +158,12 @@ impl Cell {
     fn marked_if(self, in_breach: bool) -> Cell {
         Cell { marked: self.marked || in_breach, ..self }
     }
+}
+
+/// The pages of a block with the maker's mark.
+fn maker_marks(card: &Card, block: usize) -> String {
+    let pages: Vec<String> = card.marked_pages(block).iter().map(usize::to_string).collect();
+    pages.join(",")
 }
 
 /// Capitals for what is to stand out without colour.
@@ -218,6 +226,7 @@ pub fn to_json(card: &Card) -> Json {
             ("block", Json::number(number)),
             ("role", Json::text(name(blocks.role(block)).to_lowercase())),
             ("breaks", broken),
+            ("marked_pages", Json::numbers(card.marked_pages(number))),
             ("logical_block", Json::number_if_any(used.map(|used| used.logical_block))),
             ("number", Json::number_if_any(used.map(|used| used.number as usize))),
             ("logical_pages", Json::numbers(held)),

@@ -67,23 +67,26 @@ Draws a map of the chip: for each block its role, its logical block, its sequenc
 number, and its pages. On a small card the pages are shown by the logical page that
 they hold, on a large one by how far the block is filled (#; + in part). Bad, obsolete
 and broken blocks are in capitals and marked with !, as are those that break a rule with
-others. In colour on a terminal, unless NO_COLOR is set.
+others. BAD p1: the maker's mark stands on page 1; BAD p0,1: on pages 0 and 1. In colour
+on a terminal, unless NO_COLOR is set.
 
   --json             print an object: pages_per_block, well_formed, and blocks, of each
-                     block, role, breaks (the rule, or null), logical_block, number and
-                     logical_pages
+                     block, role, breaks (the rule, or null), marked_pages (by the
+                     maker), logical_block, number and logical_pages
 ";
 
 pub const CHECK: &str = "\
 Says what the card would answer to format, power-up, and to read and write of PAGE
-(without it: page 0), and why: which rule is broken by which blocks, at which page and
-spare byte. Changes nothing. The exit status is the answer that write would give: 0 for
-a recovered card.
+(without it: page 0), and why: which blocks are bad, by a mark on which page; which rule
+is broken by which blocks, at which page and spare byte. Where a bad block was written,
+the first page of it that can be read is named: nothing in the block counts. Changes
+nothing. The exit status is the answer that write would give: 0 for a recovered card.
 
   --json             print an object: answers (of each command, answer, programs,
-                     erases, meaning), good_blocks, blocks, highest_number, faults (of
-                     each rule, blocks, page, spare_byte, what), obsolete, and
-                     other_pages_per_block: other P with which it is as well-formed
+                     erases, meaning), good_blocks, blocks, highest_number, bad (of each
+                     block, marked_pages, holds: the logical page named, or null),
+                     faults (of each rule, blocks, page, spare_byte, what), obsolete,
+                     and other_pages_per_block: other P with which it is as well-formed
 ";
 
 pub const DUMP: &str = "\

@@ -175,11 +175,11 @@ fn json_is_json() {
         ("show junk.img", "blocks pages_per_block well_formed"),
         (
             "check cut.img",
-            "answers blocks faults good_blocks highest_number obsolete other_pages_per_block",
+            "answers bad blocks faults good_blocks highest_number obsolete other_pages_per_block",
         ),
         (
             "check junk.img",
-            "answers blocks faults good_blocks highest_number obsolete other_pages_per_block",
+            "answers bad blocks faults good_blocks highest_number obsolete other_pages_per_block",
         ),
         ("power-up cut.img", "erases programs table"),
         ("diff cut.img card.img", "differing_flash_pages differing_logical_pages flash_pages same"),

@@ -2,21 +2,13 @@
 
 mod common;
 
-use common::{Folder, PAGE_IN_DUMP, SHAPE_ARGUMENTS};
+use common::{set_spare, Folder, SHAPE_ARGUMENTS};
 
 /// The card of document 01 after case 8: block 1 has pages 4 to 7, block 2 pages 0 to 3.
 fn after_case_8() -> Folder {
     let folder = Folder::new();
     folder.card("demo card.img").expect_done();
     folder
-}
-
-/// Puts bytes over the spare bytes of a flash page.
-fn set_spare(folder: &Folder, page: usize, byte: usize, bytes: &[u8]) {
-    let mut image = folder.bytes("card.img");
-    let at = page * PAGE_IN_DUMP + 512 + byte;
-    image[at..at + bytes.len()].copy_from_slice(bytes);
-    folder.put("card.img", &image);
 }
 
 fn page(folder: &Folder, number: usize) -> Vec<u8> {
@@ -127,7 +119,7 @@ fn raw_names_the_spare_bytes() {
         "spare bytes",
         "  0-3  04 00 00 00              sequence number 4",
         "    4  0f                       kind: copy",
-        "    5  ff                       block status: good",
+        "    5  ff                       block status: no mark",
         "  6-7  01 00                    logical page 1",
         " 8-15  ff ff ff ff ff ff ff ff  not used",
     ];
@@ -156,4 +148,8 @@ fn raw_says_what_is_wrong() {
     set_spare(&folder, 9, 0, &[255; 16]);
     let words = "sequence number: WRONG: all spare bytes are 255, and the data are not";
     assert!(folder.card("raw card.img 9").expect_done().text.contains(words));
+    // The maker's mark on a page that is erased but for it.
+    set_spare(&folder, 0, 5, &[0]);
+    let words = "    5  00                       block status: not 255\n";
+    assert!(folder.card("raw card.img 0").expect_done().text.contains(words));
 }

@@ -204,7 +204,7 @@ fn show_marks_bad_and_broken_blocks() {
       0  free                        . . . .
       1  free                        . . . .
 !     2  BROKEN W2
-!     3  BAD
+!     3  BAD p0
       4  free                        . . . .
 
 5 blocks of 4 pages: 0 data, 0 log (at most 1), 3 free, 1 BAD, 1 BROKEN
@@ -258,7 +258,7 @@ fn show_draws_a_large_card_in_two_columns() {
         lines[1],
         "   0  log       2       1  #+......     32  free                 ........"
     );
-    assert_eq!(lines[2], "   1  free                 ........   ! 33  BAD");
+    assert_eq!(lines[2], "   1  free                 ........   ! 33  BAD p0");
     assert_eq!(lines[34], "64 blocks of 32 pages: 0 data, 1 log (at most 4), 62 free, 1 BAD");
     assert!(lines.iter().all(|line| line.len() <= 80));
 }

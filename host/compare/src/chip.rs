@@ -2,9 +2,13 @@
 //! full of anything.
 
 use crate::random::Random;
+use second::card::Card;
 use second::shape::{DATA_BYTES, SPARE_BYTES};
 use second::spare::{Kind, Spare, HIGHEST_NUMBER, STATUS};
 use second::Shape;
+
+/// Bytes for a mark.
+const MARKS: [u8; 3] = [0, 127, 254];
 
 /// An image and the shape that it was made for.
 #[derive(Clone)]
@@ -60,13 +64,38 @@ impl Chip {
             _ => 0,
         };
         for _ in 0..bad {
-            let block = random.below(self.blocks);
-            self.spare_of(block, 0)[STATUS] = random.one_of(&[0, 127, 254]);
+            self.mark(random.below(self.blocks), random);
         }
     }
 
+    /// Puts the maker's mark on a block: on page 0, on page 1, or on both.
+    fn mark(&mut self, block: usize, random: &mut Random) {
+        for page in random.one_of::<&[usize]>(&[&[0], &[1], &[0, 1]]) {
+            self.spare_of(block, *page)[STATUS] = random.one_of(&MARKS);
+        }
+    }
+
+    /// Marks a block now and then, a used one mostly: its number, kind and addresses
+    /// count for nothing then. Seldom where the card can spare none.
+    fn mark_used(&mut self, random: &mut Random) {
+        let times = if self.can_spare_a_block() { 2 } else { 40 };
+        if random.one_in(times) {
+            let (block, _) = self.any_page(random);
+            self.mark(block, random);
+        }
+    }
+
+    fn can_spare_a_block(&self) -> bool {
+        self.card().is_some_and(|card| card.good_blocks() as u128 > card.shape.good_blocks_needed())
+    }
+
+    /// The chip as the second program sees it, which says what is bad.
+    fn card(&self) -> Option<Card<'_>> {
+        Card::new(&self.data, &self.spare, self.shape)
+    }
+
     /// Makes up data blocks, live log blocks and obsolete blocks, as a long history
-    /// could have left them.
+    /// could have left them, and marks one of them now and then.
     fn make_up(&mut self, random: &mut Random) {
         let pages = self.shape.pages;
         let mut maker = Maker::new(self, random);
@@ -91,24 +120,26 @@ impl Chip {
                 maker.put(Kind::Copy, l, &(0..half).collect::<Vec<_>>());
             }
         }
+        self.mark_used(random);
     }
 
     /// Damages some bytes, so that one rule or other is broken, or just not.
     pub fn damage(&mut self, random: &mut Random) {
         for _ in 0..random.between(1, 3) {
             let (block, page) = self.any_page(random);
-            match random.below(9) {
+            match random.below(10) {
                 0 => self.spare_of(block, page)[random.below(16)] ^= 1 << random.below(8),
                 1 => {
                     let byte = random.one_of(&[0, 1, 254, 255]);
                     self.spare_of(block, page)[random.below(16)] = byte;
                 }
                 2 => self.spare_of(block, page)[4] = random.one_of(&[15, 240]),
-                3 => self.data_of(block, page)[random.below(512)] = random.byte(),
-                4 => self.erase_pages(block, page, page + 1),
-                5 => self.erase_pages(block, page, self.shape.pages),
-                6 => self.renumber(block, random),
-                7 => self.readdress(block, page, random),
+                3 => self.spare_of(block, page)[STATUS] = random.one_of(&MARKS),
+                4 => self.data_of(block, page)[random.below(512)] = random.byte(),
+                5 => self.erase_pages(block, page, page + 1),
+                6 => self.erase_pages(block, page, self.shape.pages),
+                7 => self.renumber(block, random),
+                8 => self.readdress(block, page, random),
                 _ => {
                     let (from_block, from_page) = self.any_page(random);
                     let spare = self.spare_of(from_block, from_page).to_vec();
@@ -155,7 +186,15 @@ impl Chip {
         self.spare.fill_with(|| random.one_of(choices));
         self.data.fill(random.byte());
         if random.one_in(2) {
-            (0..self.blocks).for_each(|block| self.spare_of(block, 0)[STATUS] = 255);
+            self.make_good();
+        }
+    }
+
+    /// Takes the maker's marks away, wherever the second program sees one.
+    fn make_good(&mut self) {
+        for block in 0..self.blocks {
+            let marked = self.card().map_or(Vec::new(), |card| card.marked_pages(block));
+            marked.into_iter().for_each(|page| self.spare_of(block, page)[STATUS] = 255);
         }
     }
 
@@ -196,9 +235,8 @@ struct Maker<'a> {
 
 impl<'a> Maker<'a> {
     fn new(chip: &'a mut Chip, random: &'a mut Random) -> Maker<'a> {
-        let good =
-            |block: &usize| chip.spare[block * chip.shape.pages * SPARE_BYTES + STATUS] == 255;
-        let mut free: Vec<usize> = (0..chip.blocks).filter(good).collect();
+        let is_good = |block: &usize| chip.card().is_some_and(|card| !card.is_bad(*block));
+        let mut free: Vec<usize> = (0..chip.blocks).filter(is_good).collect();
         random.shuffle(&mut free);
         // Where a byte is carried over, and where the numbers end.
         let top = u64::from(HIGHEST_NUMBER) - random.below(3 * chip.blocks) as u64;
@@ -249,5 +287,47 @@ impl<'a> Maker<'a> {
             offsets.swap(0, 1);
         }
         offsets
+    }
+}
+
+#[cfg(test)]
+mod tests {
+    use super::*;
+
+    /// The bad blocks of many chips: the pages that are marked, and whether the block
+    /// looks used.
+    fn bad_blocks() -> Vec<(Vec<usize>, bool)> {
+        let mut found = Vec::new();
+        for seed in 0..500 {
+            let chip = Chip::any(&mut Random::new(seed));
+            let card = chip.card().expect("a card");
+            let is_entry = |page| Spare::from_bytes(card.spare(page)).is_some();
+            let bad = (0..chip.blocks).filter(|block| card.is_bad(*block));
+            found.extend(
+                bad.map(|block| (card.marked_pages(block), card.pages_of(block).any(is_entry))),
+            );
+        }
+        found
+    }
+
+    #[test]
+    fn marks_stand_on_either_page_and_on_both() {
+        let found = bad_blocks();
+        for marked in [vec![0], vec![1], vec![0, 1]] {
+            for looks_used in [true, false] {
+                assert!(found.contains(&(marked.clone(), looks_used)), "{marked:?} {looks_used}");
+            }
+        }
+    }
+
+    #[test]
+    fn a_chip_made_good_has_no_bad_block() {
+        let mut random = Random::new(1);
+        for _ in 0..100 {
+            let mut chip = Chip::erased(&mut random);
+            chip.spare.fill(0);
+            chip.make_good();
+            assert_eq!(chip.card().expect("a card").good_blocks(), chip.blocks);
+        }
     }
 }

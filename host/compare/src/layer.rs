@@ -75,11 +75,12 @@ pub const PROVED: Layer = layer!("the proved layer", self::proved, |answer: laye
 pub const SECOND: Layer = layer!("the second program", second);
 
 /// The second program with a fault planted, under the name of the fault.
-pub const FAULTY: [Layer; 6] = [
+pub const FAULTY: [Layer; 7] = [
     layer!("first-copy", faults::first_copy),
     layer!("early-erase", faults::early_erase),
     layer!("half-copy", faults::half_copy),
     layer!("erased-by-data", faults::erased_by_data),
     layer!("complete-out-of-order", faults::complete_out_of_order),
     layer!("data-left", faults::data_left),
+    layer!("first-page-alone", faults::first_page_alone),
 ];

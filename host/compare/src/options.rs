@@ -16,7 +16,7 @@ it, and ends with exit status 1; for wrong arguments 64.
   --seed X       the seed of the first card (1); the next one has the next seed
   --fault NAME   test, in the place of the proved layer, the second program with a
                  fault planted: first-copy, early-erase, half-copy, erased-by-data,
-                 complete-out-of-order or data-left
+                 complete-out-of-order, data-left or first-page-alone
 ";
 
 const SECONDS: Duration = Duration::from_secs(30);

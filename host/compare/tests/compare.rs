@@ -3,14 +3,16 @@
 
 use std::process::Command;
 
-/// The five mistakes that document 01 names, and one of the block write.
-const FAULTS: [&str; 6] = [
+/// The five mistakes that document 01 names, one of the block write, and one of bad
+/// blocks.
+const FAULTS: [&str; 7] = [
     "first-copy",
     "early-erase",
     "half-copy",
     "erased-by-data",
     "complete-out-of-order",
     "data-left",
+    "first-page-alone",
 ];
 
 struct Run {

@@ -26,7 +26,8 @@ pub enum Refusal {
     WrongBuffer,
     /// 3: logical page or logical block out of range.
     OutOfRange,
-    /// 4: fewer good blocks than L + K + 1.
+    /// 4: fewer good blocks than L + K + 1. A block is bad when spare byte 5 of its
+    /// page 0 or page 1 is not 255, the maker's mark.
     TooFewBlocks,
     /// 5: W1 to W7 not all true.
     IllFormed,

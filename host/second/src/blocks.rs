@@ -9,7 +9,7 @@ use crate::spare::Kind;
 /// The part that a block has in a card.
 #[derive(Clone, Copy, Debug, PartialEq, Eq)]
 pub enum Role {
-    /// Byte 5 of its first page is not 255.
+    /// Byte 5 of page 0 or of page 1 is not 255.
     Bad,
     /// All its pages are erased.
     Free,

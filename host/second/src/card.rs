@@ -4,6 +4,10 @@ use crate::shape::{Shape, DATA_BYTES, SPARE_BYTES};
 use crate::spare::STATUS;
 use std::ops::Range;
 
+/// The pages of a block on which the maker's mark may stand, ascending. P is at least
+/// 2, so that every block has them.
+const MARK_PAGES: [usize; 2] = [0, 1];
+
 /// An image lent together with its shape, both inside the limits.
 ///
 /// The pages of the flash are counted through: page i of block b is flash page
@@ -46,9 +50,17 @@ impl<'a> Card<'a> {
         *self.spare(page) == [255; SPARE_BYTES] && *self.data(page) == [255; DATA_BYTES]
     }
 
-    /// A block is bad when byte 5 of its first page is not 255.
+    /// The pages, counted inside the block and ascending, on which the maker's mark
+    /// stands: byte 5 is not 255.
+    pub fn marked_pages(&self, block: usize) -> Vec<usize> {
+        let start = self.pages_of(block).start;
+        let is_marked = |page: &usize| self.spare(start + page)[STATUS] != 255;
+        MARK_PAGES.into_iter().filter(is_marked).collect()
+    }
+
+    /// A block is bad when byte 5 of page 0 or of page 1 is not 255.
     pub fn is_bad(&self, block: usize) -> bool {
-        self.spare(self.pages_of(block).start)[STATUS] != 255
+        !self.marked_pages(block).is_empty()
     }
 
     /// A good block is free when all its pages are erased.

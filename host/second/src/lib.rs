@@ -1,5 +1,5 @@
 //! The layer once more, in ordinary Rust, written from document 01 alone; the block
-//! write from document 02, request (i).
+//! write from document 02, request (i), and when a block is bad from request (ii).
 //!
 //! It is there to be compared with the proved layer and to be read beside the
 //! documents: a sentence of a document stands above the lines made from it,

@@ -82,9 +82,10 @@ fn w2_the_bytes_of_the_table() {
             chip.spare_of(2, 0)[..4].copy_from_slice(&number.to_le_bytes());
         });
     }
-    // The block status, on another page than the first: there it makes a bad block.
-    breaks(Rule::W2, &[1], |chip| chip.spare_of(1, 1)[5] = 0);
+    // The block status, on another page than the first two: there it makes a bad block.
+    breaks(Rule::W2, &[1], |chip| chip.spare_of(1, 2)[5] = 0);
     answers(RECOVERED, |chip| chip.spare_of(1, 0)[5] = 0);
+    answers(RECOVERED, |chip| chip.spare_of(1, 1)[5] = 0);
     // Data programmed under erased spare bytes.
     breaks(Rule::W2, &[3], |chip| chip.data_of(3, 0)[0] = 254);
 }

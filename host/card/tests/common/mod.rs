@@ -190,6 +190,14 @@ pub fn block(fills: [u8; 4]) -> Vec<u8> {
     fills.map(|fill| [fill; 512]).concat()
 }
 
+/// Puts bytes over the spare bytes of a flash page of `card.img`.
+pub fn set_spare(folder: &Folder, page: usize, byte: usize, bytes: &[u8]) {
+    let mut image = folder.bytes("card.img");
+    let at = page * PAGE_IN_DUMP + 512 + byte;
+    image[at..at + bytes.len()].copy_from_slice(bytes);
+    folder.put("card.img", &image);
+}
+
 /// The dump of a data and a spare image.
 pub fn dump(data: &[u8], spare: &[u8]) -> Vec<u8> {
     let pages = data.chunks(512).zip(spare.chunks(16));

@@ -120,7 +120,12 @@ impl Chip {
     }
 
     pub fn make_bad(&mut self, block: usize) {
-        self.spare_of(block, 0)[5] = 0;
+        self.mark(block, 0);
+    }
+
+    /// Puts a mark such as the maker's on a page of a block.
+    pub fn mark(&mut self, block: usize, page: usize) {
+        self.spare_of(block, page)[5] = 0;
     }
 
     /// What each of format, power-up, read, write and block write answers (of page 0 and
