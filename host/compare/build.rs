@@ -1,7 +1,8 @@
-//! Plants faults: makes seven copies of the second program, each with one sentence
+//! Plants faults: makes eight copies of the second program, each with one sentence
 //! put wrong. They are the five mistakes that document 01 names, one that only a block
-//! write can show, and one that only a mark on a second page can show; they are there
-//! to show that the comparison finds them. The second program itself stays as it is.
+//! write can show, one that only a mark on a second page can show, and one that only a
+//! page erased but for some bytes can show; they are there to show that the comparison
+//! finds them. The second program itself stays as it is.
 
 use std::env;
 use std::fmt::Write;
@@ -19,7 +20,7 @@ struct Fault {
     wrong: &'static str,
 }
 
-const FAULTS: [Fault; 7] = [
+const FAULTS: [Fault; 8] = [
     // "Taking the first copy in a log block for the newest."
     Fault {
         name: "first_copy",
@@ -86,6 +87,13 @@ const FAULTS: [Fault; 7] = [
         file: "card.rs",
         right: "const MARK_PAGES: [usize; 2] = [0, 1];",
         wrong: "const MARK_PAGES: [usize; 1] = [0];",
+    },
+    // Calling a page erased without a look at the last 64 of its data bytes.
+    Fault {
+        name: "last_group_not_looked_at",
+        file: "card.rs",
+        right: "*self.data(page) == [255; DATA_BYTES]",
+        wrong: "self.data(page)[..DATA_BYTES - 64] == [255; DATA_BYTES - 64]",
     },
 ];
 

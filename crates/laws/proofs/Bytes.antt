@@ -1,15 +1,21 @@
 -- Laws of lists of bytes: all 255, a part, a part replaced.
 use mathlib.Core.Path.{_≡_, refl, sym, ap, _∙_}
-use mathlib.Core.Bool.{true, false, _&&_}
-use mathlib.Core.List.{List, _++_}
-use Prim.Native.Nat.{ℕ, zero, suc, _+_, _-_, _≤_, _<_}
-use native.Mathlib.Numerals.{add-one}
+use mathlib.Core.Bool.{Bool, true, false, _&&_, and-assoc, and-true, and-false}
+use mathlib.Core.List.{List, [], _∷_, _++_}
+use Prim.Native.Nat.{ℕ, zero, suc, _+_, _-_, _*_, _≤_, _<_}
+use native.Mathlib.Nat.{add-mul, one-mul}
 use native.Mathlib.Omega.{arith}
-use borrow.Author.Tests.{eq-eqb, ne-eqb}
-use lib.Dec.{eqb}
-use lib.ListN.{length, take, drop, replicate, drop-of-length-le, length-append, length-take, length-drop, length-replicate, take-append-drop, replicate-append-replicate}
-use lib.Seq.{drop-cons, drop-drop, length-take-le, take-append-le, drop-append-le, take-at, drop-at}
+use lib.Dec.{T, eqb, eqb→eq}
+use lib.ListN.{length, take, drop, replicate, length-append, length-take, length-drop, length-replicate, take-append-drop, replicate-append-replicate}
+use lib.Seq.{take-add, drop-cons, drop-drop, length-take-le, take-append-le, drop-append-le, take-at, drop-at}
 use Rattle.rules.specs.Bytes.{all255, byte, part, replaced}
+use Rattle.laws.proofs.Tests.{and-l, and-r}
+
+-- ---- a part that is lent
+
+-- what a part lent as &xs[at..at + n] is
+pub part-lent : (xs : List ℕ) (at n : ℕ) → take ((at + n) - at) (drop at xs) ≡ part xs at n
+part-lent xs at n = let e : (at + n) - at ≡ n = omega arith in ap (λ (k : ℕ). take k (drop at xs)) e
 
 -- ---- all255
 
@@ -18,20 +24,50 @@ unfolding all255
 all255-replicate zero = refl
 all255-replicate (suc n) = all255-replicate n
 
--- from place i on, as a loop goes
-from : (xs : List ℕ) (i : ℕ) → i < length xs → all255 (drop i xs) ≡ (eqb (byte xs i) 255 && all255 (drop (i + 1) xs))
+-- several at a time: a list is all 255 where both its parts are, wherever it is parted
+pub all255-append : (xs ys : List ℕ) → all255 (xs ++ ys) ≡ (all255 xs && all255 ys)
 unfolding all255
-from xs i h = rw (add-one, drop-cons xs i 0)
+all255-append [] ys = refl
+all255-append (x ∷ xs) ys = ap (λ (b : Bool). eqb x 255 && b) (all255-append xs ys) ∙ sym (and-assoc (eqb x 255) (all255 xs) (all255 ys))
 
-pub all255-stop : (xs : List ℕ) (i : ℕ) → i < length xs → (byte xs i ≡ 255 → ⊥) → all255 (drop i xs) ≡ false
-all255-stop xs i h ne = rw (from xs i h, ne-eqb (byte xs i) 255 ne)
+-- the first i and the n after them
+pub all255-more : (xs : List ℕ) (i n : ℕ) → all255 (take (i + n) xs) ≡ (all255 (take i xs) && all255 (part xs i n))
+all255-more xs i n = ap all255 (take-add i n xs) ∙ all255-append (take i xs) (part xs i n)
 
-pub all255-next : (xs : List ℕ) (i : ℕ) → i < length xs → byte xs i ≡ 255 → all255 (drop i xs) ≡ all255 (drop (i + 1) xs)
-all255-next xs i h e = rw (from xs i h, eq-eqb (byte xs i) 255 e)
-
-pub all255-end : (xs : List ℕ) (i : ℕ) → length xs ≤ i → all255 (drop i xs) ≡ true
+pub all255-none : (xs : List ℕ) → true ≡ all255 (take 0 xs)
 unfolding all255
-all255-end xs i h = rw (drop-of-length-le xs h)
+all255-none xs = refl
+
+-- one at a time, as a loop goes
+pub all255-turn : (xs : List ℕ) (i : ℕ) {t r : Bool} → i < length xs → t ≡ all255 (take i xs) → r ≡ (t && eqb (byte xs i) 255)
+    → r ≡ all255 (take (i + 1) xs)
+unfolding all255
+all255-turn xs i h e f =
+    let one : all255 (part xs i 1) ≡ eqb (byte xs i) 255 = rw (drop-cons xs i 0) (and-true (eqb (byte xs i) 255)) in
+    f ∙ ap (λ (b : Bool). b && eqb (byte xs i) 255) e ∙ ap (λ (b : Bool). all255 (take i xs) && b) (sym one) ∙ sym (all255-more xs i 1)
+
+-- group k of n bytes at a time, lent as &xs[at..at + n]; r says whether it is all 255
+module _ (xs : List ℕ) (n k : ℕ) {r : Bool} (told : r ≡ all255 (take ((k * n + n) - k * n) (drop (k * n) xs))) where
+  group : r ≡ all255 (part xs (k * n) n)
+  group = told ∙ ap all255 (part-lent xs (k * n) n)
+
+  pub group-next : true ≡ all255 (take (k * n) xs) → r ≡ true → true ≡ all255 (take ((k + 1) * n) xs)
+  group-next before here =
+      let next : (k + 1) * n ≡ k * n + n = add-mul k 1 n ∙ ap (λ (m : ℕ). k * n + m) (one-mul n) in
+      rw (next, all255-more xs (k * n) n, ← before, ← group, here) refl
+
+  pub group-differs : r ≡ false → false ≡ all255 xs
+  group-differs here =
+      let m : ℕ = k * n + n in
+      let first : all255 (take m xs) ≡ false =
+      all255-more xs (k * n) n ∙ ap (λ (b : Bool). all255 (take (k * n) xs) && b) (sym group ∙ here) ∙ and-false (all255 (take (k * n) xs)) in
+      sym (ap all255 (sym (take-append-drop m xs)) ∙ all255-append (take m xs) (drop m xs) ∙ ap (λ (b : Bool). b && all255 (drop m xs)) first)
+
+pub all255-at : (xs : List ℕ) (i : ℕ) → T (all255 xs) → i < length xs → byte xs i ≡ 255
+unfolding all255
+all255-at [] i t h = omega arith
+all255-at (x ∷ xs) zero t h = eqb→eq x 255 (and-l (eqb x 255) (all255 xs) t)
+all255-at (x ∷ xs) (suc i) t h = all255-at xs i (and-r (eqb x 255) (all255 xs) t) (omega arith)
 
 -- ---- part
 
@@ -55,10 +91,6 @@ part-replicate m v at n h =
     ap (λ (l : List ℕ). part l at n) (sym whole)
     ∙ ap (take n) (drop-at (replicate at v) (replicate n v ++ rest) at (length-replicate at v))
     ∙ take-at (replicate n v) rest n (length-replicate n v)
-
--- what a part lent as &xs[at..at + n] is
-pub part-lent : (xs : List ℕ) (at n : ℕ) → take ((at + n) - at) (drop at xs) ≡ part xs at n
-part-lent xs at n = let e : (at + n) - at ≡ n = omega arith in ap (λ (k : ℕ). take k (drop at xs)) e
 
 pub part-lent-length : (xs : List ℕ) (at n : ℕ) → at + n ≤ length xs → length (take ((at + n) - at) (drop at xs)) ≡ n
 part-lent-length xs at n h = ap length (part-lent xs at n) ∙ part-length xs at n h

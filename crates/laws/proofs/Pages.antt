@@ -1,12 +1,13 @@
 -- Laws of pages: what a page says, and the pages after a step.
 use mathlib.Core.Path.{_≡_, refl, sym, ap, _∙_, subst}
+use mathlib.Core.Bool.{Bool, true, false, cond}
 use mathlib.Core.Logic.{_≢_, _⊎_, inl, inr, ⊎-elim}
 use mathlib.Core.List.{List, [], _∷_, _++_}
-use Prim.Native.Nat.{ℕ, _+_, _*_, _/_, _≤_, _<_}
+use Prim.Native.Nat.{ℕ, _+_, _-_, _*_, _/_, _≤_, _<_}
 use native.Mathlib.Nat.{add-mul, mul-le-mul-right}
 use native.Mathlib.Omega.{arith}
 use lib.Dec.{T, T-not}
-use lib.ListN.{length, replicate, length-replicate}
+use lib.ListN.{length, take, drop, replicate, length-replicate}
 use Rattle.rules.specs.declared.shape.Shape.{Shape}
 use Rattle.rules.specs.declared.page.Page.{Page}
 use Rattle.rules.specs.declared.page.Page.the-variants.{Erased, Entry, Junk}
@@ -15,10 +16,10 @@ use Rattle.rules.specs.Spare.{numberLimit, numberIn, kindIn, addressIn, inTable
 use Rattle.rules.specs.Shape.{pageNo}
 use Rattle.rules.specs.Page.{Image, pageBytes, pageSpare, erased, pageOf, pageAt, isErased, isEntry, numberOf, kindOf, addressOf}
 use Rattle.rules.specs.Steps.{Step, program, erase, stepDone, stepsDone}
-use Rattle.rules.specs.Facts.{Fits, Left}
+use Rattle.rules.specs.Facts.{imageOf, Fits, Left}
 use Rattle.rules.proofs.Sizes.{block-within}
 use Rattle.laws.proofs.Tests.{tcase, true-is, false-is, and-l, and-i, cond-yes, cond-no, dec-lt}
-use Rattle.laws.proofs.Bytes.{all255-replicate, part-replicate, replaced-length, part-replaced-same, part-replaced-inside, part-replaced-before, part-replaced-after}
+use Rattle.laws.proofs.Bytes.{all255-replicate, all255-at, part-lent, part-replicate, replaced-length, part-replaced-same, part-replaced-inside, part-replaced-before, part-replaced-after}
 use Rattle.laws.proofs.Shape.{pageNo-block, pageNo-away}
 use Rattle.laws.proofs.Spare.{Kind, InTable, inTable-facts, spareBytes-number, spareBytes-kind, spareBytes-address, spareBytes-inTable, spareBytes-not-255}
 
@@ -63,6 +64,24 @@ pageOf-spareBytes d n k a low high kind small =
     pageOf-entry d t (λ e. false-is (all255 t) (spareBytes-not-255 n k a kind) (and-l (all255 t) (all255 d) e)) (spareBytes-inTable n k a low high kind)
     ∙ cc (spareBytes-kind n k a)
 
+pub isErased-pageOf : (d t : List ℕ) → isErased (pageOf d t) ≡ erased d t
+unfolding pageOf
+isErased-pageOf d t = go (erased d t) (inTable t)
+  where
+    go : (e f : Bool) → isErased (cond e Erased (cond f (Entry (numberIn t) (kindIn t) (addressIn t)) Junk)) ≡ e
+    go true f = refl
+    go false true = refl
+    go false false = refl
+
+-- Spare bytes of the table say what the page is, whatever its data.
+pub pageOf-inTable : (d t : List ℕ) → length t ≡ 16 → T (inTable t) → pageOf d t ≡ Entry (numberIn t) (kindIn t) (addressIn t)
+unfolding erased
+pageOf-inTable d t long h =
+    pageOf-entry d t
+    (λ e. let k : kindIn t ≡ 255 = all255-at t 4 (and-l (all255 t) (all255 d) e) (omega arith) in
+    ⊎-elim (λ f. omega arith) (λ f. omega arith) (inTable-facts t h .kind))
+    h
+
 -- what holds of a page, if it is erased, an entry or junk
 pub pageOf-cases : (d t : List ℕ) (Q : Page → Type 0) → (T (erased d t) → Q Erased) → (InTable t → Q (Entry (numberIn t) (kindIn t) (addressIn t)))
     → Q Junk → Q (pageOf d t)
@@ -80,6 +99,12 @@ pub pageOf-isEntry : (d t : List ℕ) → T (isEntry (pageOf d t)) → InTable t
 pageOf-isEntry d t =
     pageOf-cases d t (λ q. T (isEntry q) → InTable t × (q ≡ Entry (numberIn t) (kindIn t) (addressIn t))) (λ e u. absurd u) (λ f u. (f, refl))
     (λ u. absurd u)
+
+-- page p of two slices, lent as &xs[i..i + 512] and &ys[j..j + 16]
+pub pageAt-lent : (xs ys : List ℕ) (p i j : ℕ) → i ≡ p * 512 → j ≡ p * 16
+    → pageOf (take ((i + 512) - i) (drop i xs)) (take ((j + 16) - j) (drop j ys)) ≡ pageAt (imageOf xs ys) p
+unfolding pageAt
+pageAt-lent xs ys p i j e f = rw (part-lent xs i 512, part-lent ys j 16, e, f) refl
 
 -- ---- pages of w bytes, end to end: those from page c on are replaced, m of them
 

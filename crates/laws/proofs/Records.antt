@@ -1,26 +1,28 @@
 -- The records of an image: what each has, whatever the bytes.
-use mathlib.Core.Path.{_≡_, refl, sym, subst}
+use mathlib.Core.Path.{_≡_, refl, sym, subst, _∙_}
 use mathlib.Core.Logic.{_⊎_, inl, inr}
-use mathlib.Core.List.{[], _∷_}
+use mathlib.Core.List.{List, [], _∷_}
 use mathlib.Core.Bool.{Bool, not, _&&_}
 use Prim.Native.Nat.{ℕ, _*_, _≤_, _<_}
 use native.Mathlib.Omega.{arith}
 use native.Mathlib.Nat.{div-lt-iff-lt-mul}
 use lib.ListN.{List·getD-eq-default}
-use lib.Dec.{T, eqb, ltb→lt, T-not}
+use lib.Dec.{T, ltb, eqb, ltb→lt, T-not}
+use borrow.Author.Tests.{lt-ltb}
 use Rattle.rules.specs.declared.shape.Shape.{Shape}
+use Rattle.rules.specs.declared.page.Page.{Page}
 use Rattle.rules.specs.declared.page.Page.the-variants.{Erased}
 use Rattle.rules.specs.declared.block.State.the-variants.{Bad, Free, Ill}
 use Rattle.rules.specs.declared.block.Block.{Block}
 use Rattle.rules.specs.Below.{allBelow, listBelow}
 use Rattle.rules.specs.Shape.{most, blockOf, inRange, pageNo}
-use Rattle.rules.specs.Page.{Image, pageBytes, pageSpare, pageAt, isErased, kindOf, addressOf}
+use Rattle.rules.specs.Page.{Image, pageBytes, pageSpare, pageOf, pageAt, isErased, isEntry, numberOf, kindOf, addressOf}
 use Rattle.rules.specs.WellFormed.{naming, Pages, W1, W2, W3, W4, W1to4, notUsed, allErased, usedBlock, goodBlock, isBad, pagesOf, blockAt, blocksOf, isUsed, isFree}
 use Rattle.laws.proofs.Tests.{tcase, is-true, is-false, and-l, or-e, dec-lt, chain-each}
 use Rattle.laws.proofs.Below.{allBelow-at, allBelow-all, countBelow-most, listBelow-length, listBelow-at}
 use Rattle.laws.proofs.Roles.{Records}
 use Rattle.laws.proofs.Spare.{Kind}
-use Rattle.laws.proofs.Pages.{pageOf-cases}
+use Rattle.laws.proofs.Pages.{pageOf-cases, pageOf-isEntry}
 
 -- ---- the records and the pages of an image, by number
 
@@ -86,6 +88,20 @@ module _ (s : Shape) (g : Pages) where
             ]
           ]
 
+  -- W2: a programmed page has bytes of the table
+  pub W2-entry : (i : ℕ) → (T (isErased (g i)) → ⊥) → T (W2 s g i) → T (isEntry (g i))
+  unfolding W2
+  W2-entry i f t =
+      let same : Bool = isEntry (g i) && eqb (kindOf (g i)) (kindOf (naming g)) in
+      let number : Bool = eqb (numberOf (g i)) (numberOf (naming g)) in
+      elim (or-e (isErased (g i)) (same && number) t) [
+        | inl e ↦ absurd (f e)
+        | inr e ↦ and-l (isEntry (g i)) (eqb (kindOf (g i)) (kindOf (naming g))) (and-l same number e)
+      ]
+
+  first-entry : 0 < s .pages → (T (allErased s g) → ⊥) → T (W1to4 s g) → T (isEntry (naming g))
+  first-entry p f t = W2-entry 0 (first-programmed f t) (allBelow-at (s .pages) (W2 s g) (rules-e t .1) 0 p)
+
   pub logical-inRange : 0 < s .pages → (T (allErased s g) → ⊥) → T (W1to4 s g) → blockOf s (addressOf (naming g)) < s .logical
   unfolding W3
   logical-inRange p f t =
@@ -126,6 +142,24 @@ module _ (s : Shape) (im : Image) where
       (λ f t. rw (pagesOf-at s im b 0 p)
       (pageOf-cases (pageBytes im (pageNo s b 0)) (pageSpare im (pageNo s b 0)) (λ q. (kindOf q ≡ 0) ⊎ Kind (kindOf q)) (λ e. inl refl)
       (λ e. inr (e .kind)) (inl refl))))
+
+  -- a used block has a number above 0, any other has 0
+  pub blockAt-number : 0 < s .pages → (b : ℕ) → isUsed (blockAt s im b .state) ≡ ltb 0 (blockAt s im b .number)
+  unfolding pageAt
+  blockAt-number p b =
+      blockAt-cases (λ x. isUsed (x .state) ≡ ltb 0 (x .number)) b refl
+      (goodBlock-cases s g (λ x. isUsed (x .state) ≡ ltb 0 (x .number)) (λ t. refl) refl (λ f t. sym (lt-ltb 0 (numberOf (naming g)) (above f t))))
+    where
+      g : Pages
+      g = pagesOf s im b
+
+      above : (T (allErased s g) → ⊥) → T (W1to4 s g) → 0 < numberOf (naming g)
+      above f t =
+          let d : List ℕ = pageBytes im (pageNo s b 0) in
+          let m : List ℕ = pageSpare im (pageNo s b 0) in
+          let here : naming g ≡ pageOf d m = pagesOf-at s im b 0 p in
+          let (table, e) = pageOf-isEntry d m (subst (λ (q : Page). T (isEntry q)) here (first-entry s g p f t)) in
+          subst (λ (q : Page). 0 < numberOf q) (sym (here ∙ e)) (table .number-low)
 
   -- the logical block of any of them is 0 or below L
   pub blockAt-logical : 0 < s .pages → (b : ℕ) → (blockAt s im b .logical ≡ 0) ⊎ (blockAt s im b .logical < s .logical)

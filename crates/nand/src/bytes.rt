@@ -1,19 +1,19 @@
 ghost use mathlib.Core.Path.{_≡_};
 ghost use lib.ListN.{length, replicate};
 ghost use Rattle.rules.specs.Bytes.{all255};
+use rules::test;
 
-// Whether every byte is 255.
+// Whether every byte is 255. Each is looked at, so that they can be compared several at a time: for a few bytes, as many as the caller's part has.
 pub fn all_255(s: &[u8]) -> bool
     ensures { λ r. ⌜ r ≡ all255 (now (s .entry)) ⌝ }
 {
+    let mut all = true;
     let mut i = 0;
     while i < s.len() {
-        if s[i] != 255 {
-            return false;
-        }
+        all = test::and(all, s[i] == 255);
         i += 1;
     }
-    true
+    all
 }
 
 pub fn copy_over(to: &mut [u8], from: &[u8])

@@ -1,21 +1,69 @@
--- Laws of W6 in one pass: of each logical block, whether one of the first i records is a live log block of it.
+-- Laws of W5 by the numbers alone, and of W6 in one pass: of each logical block, whether one of the first i records is a live log block of it.
 use mathlib.Core.Path.{_≡_, refl, sym, ap, _∙_}
 use mathlib.Core.Logic.{inl, inr}
 use mathlib.Core.Bool.{Bool, true, false, not, _&&_, _||_, and-true, and-false, or-false, Bool·not-not}
 use mathlib.Core.List.{List}
 use Prim.Native.Nat.{ℕ, _+_, _<_}
 use native.Mathlib.Omega.{arith}
-use lib.Dec.{eqb}
+use lib.Dec.{ltb, eqb}
 use lib.ListN.{length, getD, set, replicate, length-set, length-replicate, getD-replicate}
 use lib.Seq.{getD-set-same, getD-set-other}
-use borrow.Author.Tests.{eq-eqb, ne-eqb}
+use borrow.Author.Tests.{eq-eqb, ne-eqb, lt-ltb}
 use Rattle.rules.specs.declared.shape.Shape.{Shape}
 use Rattle.rules.specs.declared.block.Block.{Block}
 use Rattle.rules.specs.Below.{allBelow}
 use Rattle.rules.specs.Shape.{most}
-use Rattle.rules.specs.WellFormed.{Blocks, isLive}
+use Rattle.rules.specs.WellFormed.{Blocks, isUsed, isLive}
 use Rattle.laws.proofs.Tests.{dec-eq, is-true}
-use Rattle.laws.proofs.Below.{allBelow-all, allBelow-more}
+use Rattle.laws.proofs.Below.{allBelow-all, allBelow-same, allBelow-more, listBelow-at}
+use Rattle.roles.specs.Passes.{Numbered}
+use Rattle.refusals.specs.Clashes.{numbersIn, apartBelow}
+
+-- ---- W5
+
+-- two used blocks with one number
+abbrev oneNumber : Blocks → ℕ → ℕ → Bool
+oneNumber c i j = isUsed (c i .state) && isUsed (c j .state) && eqb (c i .number) (c j .number)
+
+-- no block below i has the number of block i
+abbrev pub apart : Blocks → ℕ → Bool
+apart c i = allBelow i (λ j. not (oneNumber c i j))
+
+module _ (c : Blocks) (r : Numbered c) (i : ℕ) where
+  -- where block i has no number
+  apart-none : c i .number ≡ 0 → apart c i ≡ true
+  apart-none e =
+      let unused : isUsed (c i .state) ≡ false = r i ∙ ap (ltb 0) e in
+      is-true (apart c i) (allBelow-all i (λ j. not (oneNumber c i j)) (λ j h. rw unused tt))
+
+  -- where it has one
+  apart-by : (c i .number ≡ 0 → ⊥) → (j : ℕ) → not (eqb (c j .number) (c i .number)) ≡ not (oneNumber c i j)
+  apart-by f j =
+      let used : isUsed (c i .state) ≡ true = r i ∙ lt-ltb 0 (c i .number) (omega arith) in
+      let same : eqb (c j .number) (c i .number) ≡ oneNumber c i j = elim (dec-eq (c j .number) (c i .number)) [
+        | inl z ↦
+            let other : isUsed (c j .state) ≡ true = r j ∙ lt-ltb 0 (c j .number) (omega arith) in
+            eq-eqb (c j .number) (c i .number) z ∙ sym (rw (used, other) (eq-eqb (c i .number) (c j .number) (sym z)))
+        | inr z ↦
+            ne-eqb (c j .number) (c i .number) z
+            ∙ sym (rw (ne-eqb (c i .number) (c j .number) (λ q. z (sym q))) (and-false (isUsed (c i .state) && isUsed (c j .state))))
+      ] in
+      ap not same
+
+  -- so the numbers tell it
+  pub apart-told : {own : List ℕ} → own ≡ numbersIn c → i < most → apartBelow own i ≡ apart c i
+  apart-told {own} e h =
+      let at : (j : ℕ) → j < most → getD own j 0 ≡ c j .number =
+      λ j k. ap (λ (l : List ℕ). getD l j 0) e ∙ listBelow-at most (λ j. c j .number) j 0 k in
+      elim (dec-eq (c i .number) 0) [
+        | inl z ↦ rw (at i h, eq-eqb (c i .number) 0 z) (sym (apart-none z))
+        | inr z ↦
+            rw (at i h, ne-eqb (c i .number) 0 z)
+            (allBelow-same i (λ j. not (eqb (getD own j 0) (c i .number))) (λ j. not (oneNumber c i j))
+            (λ j k. ap (λ (n : ℕ). not (eqb n (c i .number))) (at j (omega arith)) ∙ apart-by z j))
+      ]
+
+-- ---- W6
 
 -- block j is a live log block of logical block l
 abbrev logOf : Shape → Blocks → ℕ → ℕ → Bool

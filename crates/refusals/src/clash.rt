@@ -1,43 +1,44 @@
 // W5 to W7: what no two blocks may have in common, and all rules together.
 ghost use mathlib.Core.Path.{_≡_};
-ghost use mathlib.Core.Bool.{false, not};
+ghost use mathlib.Core.Bool.{false};
 ghost use Prim.Native.Nat.{_≤_, _<_};
 ghost use lib.ListN.{replicate};
-ghost use Rattle.rules.specs.Below.{allBelow};
 ghost use Rattle.rules.specs.Shape.{most};
 ghost use Rattle.rules.specs.WellFormed.{W5, W6, wellFormed};
 ghost use Rattle.words.specs.Words.{recordsIn};
-ghost use Rattle.roles.specs.Passes.{Numbers, census};
-ghost use Rattle.refusals.specs.Clashes.{oneNumber};
+ghost use Rattle.roles.specs.Passes.{Numbered, Numbers, census};
+ghost use Rattle.refusals.specs.Clashes.{numbersIn, apartBelow};
 use roles::census::Census;
 use roles::role;
-use rules::block::Block;
 use rules::shape::MOST;
 use rules::shape::Shape;
 use rules::test;
 
-fn one_number(x: Block, y: Block) -> bool
-    ensures { λ r. ⌜ r ≡ oneNumber x y ⌝ }
+// Puts the number of each block into an array of their own, 0 for a block that is not used: so they are compared several at a time.
+fn take_numbers(list: &[u64; MOST], own: &mut [u32; MOST])
+    requires { ⌜ now own ≡ replicate most 0 ⌝ }
+    ensures { λ _. ⌜ now (own .exit) ≡ numbersIn (recordsIn (now (list .entry))) ⌝ }
 {
-    let here = x.state;
-    let there = y.state;
-    test::and(
-        test::and(here.is_used(), there.is_used()),
-        x.number == y.number,
-    )
+    let mut j = 0;
+    while j < MOST {
+        own[j] = words::number(list[j]);
+        j += 1;
+    }
 }
 
-// Whether block i has another number than each block below it.
-fn apart_below(list: &[u64; MOST], i: usize) -> bool
+// Whether block i has no number, or another one than each block below it.
+fn apart_below(own: &[u32; MOST], i: usize) -> bool
     requires { ⌜ i < most ⌝ }
-    ensures { λ r. ⌜ r ≡ allBelow i (λ j. not (oneNumber (recordsIn (now (list .entry)) i) (recordsIn (now (list .entry)) j))) ⌝ }
+    ensures { λ r. ⌜ r ≡ apartBelow (now (own .entry)) i ⌝ }
 {
-    let x = words::unpack(list[i]);
+    let n = own[i];
+    if n == 0 {
+        return true;
+    }
     let mut all = true;
     let mut j = 0;
     while j < i {
-        let y = words::unpack(list[j]);
-        all = test::and(all, !one_number(x, y));
+        all = test::and(all, own[j] != n);
         j += 1;
     }
     all
@@ -45,14 +46,16 @@ fn apart_below(list: &[u64; MOST], i: usize) -> bool
 
 // W5, by pairs.
 fn numbers_apart(s: Shape, list: &[u64; MOST]) -> bool
-    requires { ⌜ s .blocks ≤ most ⌝ }
+    requires { ⌜ (s .blocks ≤ most) × Numbered (recordsIn (now list)) ⌝ }
     ensures { λ r. ⌜ r ≡ W5 s (recordsIn (now (list .entry))) ⌝ }
 {
     let blocks = s.blocks;
+    let mut own = [0u32; MOST];
+    take_numbers(list, &mut own);
     let mut all = true;
     let mut i = 0;
     while i < blocks {
-        all = test::and(all, apart_below(list, i));
+        all = test::and(all, apart_below(&own, i));
         i += 1;
     }
     all

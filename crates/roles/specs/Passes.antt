@@ -3,15 +3,19 @@ use mathlib.Core.Path.{_≡_}
 use mathlib.Core.Bool.{_&&_, not}
 use mathlib.Core.List.{List}
 use Prim.Native.Nat.{ℕ, _<_, _≤_}
-use lib.Dec.{eqb}
+use lib.Dec.{ltb, eqb}
 use mathlib.Core.Logic.{_⊎_}
 use Rattle.rules.specs.declared.shape.Shape.{Shape}
 use Rattle.rules.specs.declared.block.State.the-variants.{Bad}
 use Rattle.rules.specs.Below.{allBelow, countBelow, highestBelow, firstBelow, lowestBelow, listBelow, none}
 use Rattle.rules.specs.Shape.{most}
-use Rattle.rules.specs.WellFormed.{Blocks, notUsed, isGood, isFree, isIll, dataNumber, isData, isLive, isObsolete}
+use Rattle.rules.specs.WellFormed.{Blocks, notUsed, isGood, isFree, isIll, isUsed, dataNumber, isData, isLive, isObsolete}
 use Rattle.roles.specs.declared.census.Census.{Census}
 use Rattle.roles.specs.declared.seats.Seats.{Seats}
+
+-- a used block has a number above 0, any other has 0
+abbrev pub Numbered : Blocks → Type 0
+Numbered c = (j : ℕ) → isUsed (c j .state) ≡ ltb 0 (c j .number)
 
 -- the records of a card that has the good blocks it needs: L is below B then, so that an array has room for a number of each logical block
 pub record Recorded (s : Shape) (c : Blocks) : Type 0 where
@@ -19,6 +23,7 @@ pub record Recorded (s : Shape) (c : Blocks) : Type 0 where
   pub small : (j : ℕ) → c j .logical < most
   pub outside : (j : ℕ) → s .blocks ≤ j → c j ≡ notUsed Bad
   pub fits : (j : ℕ) → c j .filled ≤ s .pages
+  pub numbered : Numbered c
 
 -- the number of each logical block's data block, 0 for none
 abbrev pub numbersOf : Shape → Blocks → List ℕ

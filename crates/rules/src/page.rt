@@ -1,6 +1,3 @@
-ghost use mathlib.Core.Path.{_≡_};
-ghost use Rattle.rules.specs.Page.{isErased};
-
 // What a page says.
 pub enum Page {
     // all 528 bytes are 255
@@ -18,15 +15,3 @@ pub const COPY: u8 = 15;
 
 // No sequence number is above this.
 pub const NUMBER_LIMIT: u32 = 4294967294;
-
-impl Page {
-    pub fn is_erased(self) -> bool
-        ensures { λ r. ⌜ r ≡ isErased self ⌝ }
-    {
-        match self {
-            Page::Erased => true,
-            Page::Entry(_, _, _) => false,
-            Page::Junk => false,
-        }
-    }
-}

@@ -17,7 +17,7 @@ use Rattle.rules.specs.Replies.{goodBlocks, tooFewGood}
 use Rattle.laws.proofs.Tests.{dec-lt}
 use Rattle.laws.proofs.First.{first-by, unless-no, unless-yes, unless-none}
 use Rattle.laws.proofs.Below.{countBelow-most}
-use Rattle.laws.proofs.Records.{blocksOf-at, blocksOf-outside, blockAt-logical, blocksOf-records}
+use Rattle.laws.proofs.Records.{blocksOf-at, blocksOf-outside, blockAt-number, blockAt-logical, blocksOf-records}
 use Rattle.words.specs.Words.{recordsIn, wordsOf}
 use Rattle.roles.specs.Counted.{noneCounted}
 use Rattle.roles.specs.Passes.{Recorded, Numbers, numbersOf, census}
@@ -52,6 +52,10 @@ module _ (s : Shape) (im : Image) (w : Fits s im) (enough : tooFewGood s (blocks
         ];
         outside = records .outside;
         fits = records .fits;
+        numbered = λ j. elim (dec-lt j (s .blocks)) [
+          | inl h ↦ rw (blocksOf-at s im j h) (blockAt-number s im some j)
+          | inr h ↦ rw (blocksOf-outside s im j h) refl
+        ];
       }
 
 -- ---- what is left, by the refusal

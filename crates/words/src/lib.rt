@@ -73,6 +73,13 @@ pub fn pack(x: Block) -> u64
     high + low + four_if(x.ordered) + state_number(state)
 }
 
+// The number in it.
+pub fn number(w: u64) -> u32
+    ensures { λ r. ⌜ r ≡ unpacked w .number ⌝ }
+{
+    (w / 4294967296) as u32
+}
+
 pub fn unpack(w: u64) -> Block
     ensures { λ r. ⌜ r ≡ unpacked w ⌝ }
 {
@@ -80,7 +87,7 @@ pub fn unpack(w: u64) -> Block
     Block {
         state,
         kind: kind_for(w / 8 % 32),
-        number: (w / 4294967296) as u32,
+        number: number(w),
         logical: (w / 65536 % 65536) as u16,
         filled: (w / 256 % 256) as u8,
         ordered: w / 4 % 2 == 1,

@@ -1,4 +1,4 @@
-//! The card that is measured: 64 blocks of 32 pages, worn.
+//! The cards that are measured, of 64 blocks of 32 pages.
 
 pub use second::shape::{DATA_BYTES, SPARE_BYTES};
 use second::Shape;
@@ -32,11 +32,42 @@ pub struct Image {
     pub spare: Vec<u8>,
 }
 
+/// A card by the name that it has in the tables.
+pub struct Named {
+    pub name: &'static str,
+    pub image: Image,
+    /// Its live log blocks.
+    pub live: usize,
+}
+
+/// From all erased to nearly none.
+pub fn from_empty_to_full() -> [Named; 3] {
+    [
+        Named { name: "just formatted", image: formatted(), live: 0 },
+        Named { name: "half full", image: half_full(), live: 2 },
+        Named { name: "full", image: worn(), live: 4 },
+    ]
+}
+
+/// All bytes are 255.
+pub fn formatted() -> Image {
+    Image { data: vec![255; B * P * DATA_BYTES], spare: vec![255; B * P * SPARE_BYTES] }
+}
+
+/// Logical blocks 0 to 28 have a data block, 0 and 1 also a log block that is half full;
+/// 33 blocks are free.
+fn half_full() -> Image {
+    let mut image = formatted();
+    (0..29 * P).for_each(|number| write(&mut image, number));
+    (0..P / 2).for_each(|page| write(&mut image, page));
+    (0..P / 2).for_each(|page| write(&mut image, P + page));
+    image
+}
+
 /// Every logical block has a data block, and 4 have a log block: that of 0 and of 3
 /// half full, that of 1 full in order but for one page, that of 2 full out of order.
 pub fn worn() -> Image {
-    let mut image =
-        Image { data: vec![255; B * P * DATA_BYTES], spare: vec![255; B * P * SPARE_BYTES] };
+    let mut image = formatted();
     (0..L * P).for_each(|number| write(&mut image, number));
     (0..P / 2).for_each(|page| write(&mut image, page));
     (0..P - 1).for_each(|page| write(&mut image, P + page));

@@ -1,6 +1,7 @@
 //! The commands that are timed, done by the proved layer or by the second program.
 
 use crate::card::{Image, BLOCK, DATA_BYTES, K, L, P, SHAPE};
+use std::hint::black_box;
 use std::ops::Add;
 
 pub enum Command {
@@ -9,6 +10,8 @@ pub enum Command {
     Read(usize),
     Lend(usize),
     Write(usize),
+    /// A write cut at 0: all of it but its steps.
+    CutWrite(usize),
     BlockWrite(usize),
 }
 
@@ -35,8 +38,15 @@ impl Add for Done {
 /// A way to do a command.
 pub type Doer = fn(&Command, &mut Image) -> Done;
 
+/// A command to be timed on an image that it leaves as it is.
+pub fn done_by(doer: Doer, command: &Command) -> impl Fn(&mut Image) + '_ {
+    move |image| {
+        black_box(doer(command, image));
+    }
+}
+
 pub fn by_proved(command: &Command, image: &mut Image) -> Done {
-    use hamutsigra::{Card, Shape, Steps, TableEntry};
+    use hamutsigra::{Card, Refusal, Shape, Steps, TableEntry};
     let shape = Shape { pages: P, logical: L, logs: K };
     let mut card = Card::new(&mut image.data[..], &mut image.spare[..], shape);
     let mut page = [7; DATA_BYTES];
@@ -49,6 +59,11 @@ pub fn by_proved(command: &Command, image: &mut Image) -> Done {
             card.read_into(*number, &mut page).map(|()| Steps::default())
         }
         Command::Write(number) => card.write(*number, &page, None),
+        Command::CutWrite(number) => {
+            let answer = card.write(*number, &page, Some(0));
+            assert_eq!(answer, Err(Refusal::Cut(Steps::default())));
+            return Done::default();
+        }
         Command::BlockWrite(number) => card.block_write(*number, &BLOCK, None),
         Command::Lend(number) => {
             assert!(card.lend(*number).is_some());
@@ -73,6 +88,11 @@ pub fn by_second(command: &Command, image: &mut Image) -> Done {
             read(data, spare, &mut page, SHAPE, *number)
         }
         Command::Write(number) => write(data, spare, &page, SHAPE, *number, NO_CUT),
+        Command::CutWrite(number) => {
+            let answer = write(data, spare, &page, SHAPE, *number, 0);
+            assert_eq!((answer.number, answer.programs, answer.erases), (8, 0, 0));
+            return Done::default();
+        }
         Command::BlockWrite(number) => block_write(data, spare, &BLOCK, SHAPE, *number, NO_CUT),
         Command::Lend(number) => {
             assert!(lend(data, spare, SHAPE, *number).is_some());

@@ -36,6 +36,16 @@ impl Chip {
         chip
     }
 
+    /// A chip that is erased or made up, and not damaged.
+    pub fn erased_or_made_up(random: &mut Random) -> Chip {
+        let mut chip = Chip::erased(random);
+        chip.mark_bad(random);
+        if random.one_in(2) {
+            chip.make_up(random);
+        }
+        chip
+    }
+
     /// Small ones mostly: there all states are reached soon.
     fn erased(random: &mut Random) -> Chip {
         let (pages, blocks) = match random.below(500) {
@@ -90,7 +100,7 @@ impl Chip {
     }
 
     /// The chip as the second program sees it, which says what is bad.
-    fn card(&self) -> Option<Card<'_>> {
+    pub fn card(&self) -> Option<Card<'_>> {
         Card::new(&self.data, &self.spare, self.shape)
     }
 
@@ -213,6 +223,14 @@ impl Chip {
     fn data_of(&mut self, block: usize, page: usize) -> &mut [u8] {
         let page = block * self.shape.pages + page;
         &mut self.data[page * DATA_BYTES..(page + 1) * DATA_BYTES]
+    }
+
+    /// The byte at this place of a flash page: a data byte, or else a spare byte.
+    pub fn byte_of(&mut self, page: usize, place: usize) -> &mut u8 {
+        match place.checked_sub(DATA_BYTES) {
+            None => &mut self.data[page * DATA_BYTES + place],
+            Some(place) => &mut self.spare[page * SPARE_BYTES + place],
+        }
     }
 }
 

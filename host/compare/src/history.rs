@@ -5,6 +5,7 @@ use crate::chip::{fill_page, Chip};
 use crate::command::{Action, Command, Lent, Reply};
 use crate::guarded::Guarded;
 use crate::lockstep::{Difference, Lockstep};
+use crate::near_miss::{self, NearMiss};
 use crate::odd::spoil;
 use crate::random::Random;
 use second::shape::DATA_BYTES;
@@ -15,14 +16,22 @@ const NO_CUT: usize = usize::MAX;
 /// An image of more bytes is a large one, with which little is done.
 const LARGE: usize = 1 << 18;
 
-/// Plays the history of the card that this seed gives, with both layers.
-pub fn play(lockstep: &mut Lockstep, seed: u64) -> Result<(), Difference> {
+/// Plays the history of the card that this seed gives, with both layers. It begins
+/// with near misses on some cards, or on every card.
+pub fn play(lockstep: &mut Lockstep, seed: u64, on_every_card: bool) -> Result<(), Difference> {
     let mut random = Random::new(seed);
-    let chip = Chip::any(&mut random);
+    let near_misses = near_miss::numbers(seed, on_every_card);
+    let chip = match near_misses {
+        Some(_) => near_miss::chip(&mut random),
+        None => Chip::any(&mut random),
+    };
     let steps = if chip.data.len() > LARGE { 8 } else { random.between(10, 60) };
     let made_for = chip.shape;
     let pattern = Pattern::any(made_for, &mut random);
     let mut history = History { lockstep, random, chip, made_for, pattern, obsolete: false };
+    if let Some(numbers) = near_misses {
+        history.near_misses(numbers)?;
+    }
     for _ in 0..steps {
         history.step()?;
     }
@@ -88,6 +97,33 @@ struct History<'a> {
 }
 
 impl History<'_> {
+    /// Near misses one after the other, each on the chip as it is before them. The
+    /// card then goes on as it was, or as the last of them has left it.
+    fn near_misses(&mut self, numbers: impl Iterator<Item = u64>) -> Result<(), Difference> {
+        self.lockstep.tally.near_misses.cards += 1;
+        let unspoiled = self.chip.clone();
+        for number in numbers {
+            self.chip = unspoiled.clone();
+            let near_miss = NearMiss::put(&mut self.chip, number, &mut self.random);
+            self.lockstep.tally.near_misses.begin(near_miss);
+            self.every_command()?;
+            self.lockstep.tally.near_misses.end();
+        }
+        if self.random.one_in(2) {
+            self.chip = unspoiled;
+        }
+        Ok(())
+    }
+
+    /// Every command. Format is the last one: it puts right what is wrong.
+    fn every_command(&mut self) -> Result<(), Difference> {
+        self.change(Action::PowerUp { cut: NO_CUT })?;
+        self.look_at_a_page()?;
+        self.write()?;
+        self.block_write()?;
+        self.change(Action::Format { cut: NO_CUT })
+    }
+
     fn step(&mut self) -> Result<(), Difference> {
         if self.obsolete && !self.random.one_in(4) {
             return self.change(Action::PowerUp { cut: NO_CUT });

@@ -75,7 +75,7 @@ pub const PROVED: Layer = layer!("the proved layer", self::proved, |answer: laye
 pub const SECOND: Layer = layer!("the second program", second);
 
 /// The second program with a fault planted, under the name of the fault.
-pub const FAULTY: [Layer; 7] = [
+pub const FAULTY: [Layer; 8] = [
     layer!("first-copy", faults::first_copy),
     layer!("early-erase", faults::early_erase),
     layer!("half-copy", faults::half_copy),
@@ -83,4 +83,5 @@ pub const FAULTY: [Layer; 7] = [
     layer!("complete-out-of-order", faults::complete_out_of_order),
     layer!("data-left", faults::data_left),
     layer!("first-page-alone", faults::first_page_alone),
+    layer!("last-group-not-looked-at", faults::last_group_not_looked_at),
 ];

@@ -33,7 +33,7 @@ impl Lockstep {
     pub fn run(&mut self, command: Command, lent: &Lent) -> Result<(Reply, Lent), Difference> {
         let one = attempt(self.tested, command, lent);
         let other = attempt(self.second, command, lent);
-        self.tally.count(command, &other.reply);
+        self.tally.count(command, lent, &other.reply);
         // Both breaking off at the same place would be no difference, and is none of
         // the answers either.
         if one == other && other.reply != Reply::Panicked {

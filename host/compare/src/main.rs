@@ -10,6 +10,7 @@ mod guarded;
 mod history;
 mod layer;
 mod lockstep;
+mod near_miss;
 mod odd;
 mod options;
 mod progress;
@@ -55,7 +56,7 @@ fn compare(options: &Options) -> ExitCode {
             break;
         }
         let seed = options.seed.wrapping_add(card);
-        let played = history::play(&mut lockstep, seed);
+        let played = history::play(&mut lockstep, seed, options.near_misses);
         lockstep.tally.cards += 1;
         if let Err(difference) = played {
             progress.clear();

@@ -3,9 +3,9 @@
 
 use std::process::Command;
 
-/// The five mistakes that document 01 names, one of the block write, and one of bad
-/// blocks.
-const FAULTS: [&str; 7] = [
+/// The five mistakes that document 01 names, one of the block write, one of bad blocks,
+/// and one of the erased test.
+const FAULTS: [&str; 8] = [
     "first-copy",
     "early-erase",
     "half-copy",
@@ -13,6 +13,7 @@ const FAULTS: [&str; 7] = [
     "complete-out-of-order",
     "data-left",
     "first-page-alone",
+    "last-group-not-looked-at",
 ];
 
 struct Run {
@@ -43,6 +44,24 @@ fn the_layers_do_not_differ() {
     let block_writes = run.text.lines().find(|line| line.starts_with("block writes "));
     let mut words = block_writes.expect("their counts").split(' ');
     assert!(words.all(|word| word != "0"), "{}", run.text);
+}
+
+/// 66 cards with 8 near misses each are one for each place.
+#[test]
+fn near_misses_are_at_every_place() {
+    let run = compare("--cards 66 --seed 30 --near-misses");
+    assert_eq!(run.status, Some(0), "{}", run.text);
+    let near_misses =
+        "\nnear misses  528 on 66 cards, at 528 of the 528 places, 1 or more at each; ";
+    assert!(run.text.contains(near_misses), "{}", run.text);
+    assert!(run.text.ends_with(" commands on 66 cards, 0 differences\n"), "{}", run.text);
+}
+
+#[test]
+fn one_card_in_eight_has_near_misses() {
+    let run = compare("--cards 24 --seed 3");
+    let near_misses = "\nnear misses  24 on 3 cards, at 24 of the 528 places, ";
+    assert!(run.text.contains(near_misses), "{}", run.text);
 }
 
 #[test]
@@ -81,7 +100,13 @@ fn the_fault_of_the_block_write_is_found_by_a_block_write() {
 
 #[test]
 fn a_difference_can_be_replayed() {
-    let run = compare("--cards 200 --seed 2000 --fault early-erase");
+    replays("--cards 200 --seed 2000 --fault early-erase");
+    replays("--cards 200 --seed 2000 --fault last-group-not-looked-at");
+    replays("--cards 200 --seed 2000 --fault last-group-not-looked-at --near-misses");
+}
+
+fn replays(line: &str) {
+    let run = compare(line);
     let program = concat!("replay: ", env!("CARGO_BIN_EXE_compare"), " ");
     let replay = run.text.lines().find_map(|line| line.strip_prefix(program));
     let again = compare(replay.expect("a command that replays it"));

@@ -23,5 +23,5 @@ returns c =
 pub is-well-formed-spec : {M : Type 1} → statement M
 is-well-formed-spec =
     tie.close
-    (tie.spec (λ c κs. c .pre .0 .recorded .few) (λ c κs. search needs) (λ c κs. search needs) (λ c κs. search needs)
+    (tie.spec (λ c κs. (c .pre .0 .recorded .few, c .pre .0 .recorded .numbered)) (λ c κs. search needs) (λ c κs. search needs) (λ c κs. search needs)
     (λ c κs. search needs) returns)
