@@ -21,7 +21,7 @@ use Rattle.rules.specs.WellFormed.{Blocks, Pages, not_used, all_erased, W1to4, u
 use Rattle.nand.specs.Entries.{is_entry_of}
 use Rattle.words.specs.Words.{packed, unpacked, records_in, Kinded}
 use Rattle.words.proofs.Words.{packed_bad, unpacked-zero, unpacked-packed}
-use Rattle.laws.proofs.Tests.{dec_eq, dec_lt, false_is, true_is, is_true, is_false}
+use Rattle.laws.proofs.Tests.{dec_eq, lt_or_le, false_is, true_is, is_true, is_false}
 use Rattle.laws.proofs.Bytes.{part_lent, part_length}
 use Rattle.laws.proofs.Shape.{page_no_below}
 use Rattle.laws.proofs.Arrays.{StoredTo, stored_none, stored_more}
@@ -115,7 +115,7 @@ blank_whole s g =
 pub use_told : (s : Shape) (im : Image) (f : State → Bool) → f Ill ≡ f Used → (j : ℕ) → f (uses_of s im j).state ≡ f (blocks_of s im j).state
 unfolding block_at good_block
 use_told s im f e j =
-    elim (dec_lt j s.blocks) [
+    elim (lt_or_le j s.blocks) [
       | inl h ↦ rw (lt-ltb j s.blocks h, blocks_of_at s im j h) (go (is_bad s im j) (all_erased s (pages_of s im j)) (W1to4 s (pages_of s im j)))
       | inr h ↦ rw (le-ltb j s.blocks h, blocks_of_outside s im j h) refl
     ]
@@ -156,7 +156,7 @@ scanned_all f c n own outside list b z t =
   where
     word : (j : ℕ) → get_or list j 0 ≡ packed (c j)
     word j =
-        elim (dec_lt j n) [
+        elim (lt_or_le j n) [
           | inl h ↦ t.stored.stored j (omega arith) ∙ ap packed (sym (own j h))
           | inr h ↦ t.stored.rest j (omega arith) ∙ sym packed_bad ∙ ap packed (sym (outside j h))
         ]
@@ -164,7 +164,7 @@ scanned_all f c n own outside list b z t =
     at : (j : ℕ) → records_in list j ≡ c j
     at j =
         ap unpacked (word j)
-        ∙ elim (dec_lt j n) [
+        ∙ elim (lt_or_le j n) [
           | inl h ↦ rw (own j h) (t.back j (omega arith))
           | inr h ↦ rw (outside j h, packed_bad) unpacked-zero
         ]

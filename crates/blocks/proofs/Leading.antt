@@ -21,7 +21,7 @@ use Rattle.rules.specs.Shape.{page_no, block_of, offset_of, logical_page, in_ran
 use Rattle.rules.specs.Page.{page_of, is_erased, is_entry, number_of, kind_of, address_of}
 use Rattle.rules.specs.WellFormed.{naming, Pages, Rule, W1, W2, W3, W4, W1to4, not_used, all_erased, filled_in, in_order, good_block}
 use Rattle.nand.specs.Entries.{is_entry_of}
-use Rattle.laws.proofs.Tests.{tcase, dec_eq, dec_lt, true_is, is_true, is_false, false_is, bool_ext, and_l, and_r, and_i, or_l, or_r, or_e, eq→eqb, nlt→ltb, cond_yes, cond_no, each_chain, chain_each}
+use Rattle.laws.proofs.Tests.{tcase, dec_eq, lt_or_le, true_is, is_true, is_false, false_is, bool_ext, and_l, and_r, and_i, or_l, or_r, or_e, eq→eqb, nlt→ltb, cond_yes, cond_no, each_chain, chain_each}
 use Rattle.laws.proofs.Below.{all_below_at, all_below_all, all_turn, count_below_prefix}
 use Rattle.laws.proofs.Shape.{logical_page_of, offset_of_below, in_range_block, block_in_range, logical_page_block}
 use Rattle.laws.proofs.Pages.{is_erased_is, is_entry_is, page_of-in_table, page_of-is_entry}
@@ -56,7 +56,7 @@ module _ (s : Shape) (g : Pages) (n : ℕ) where
   pub past_blank : ((i : ℕ) → n ≤ i → i < s.pages → T (is_erased (g i))) → T (blank_from s g n)
   unfolding blank_from
   past_blank f =
-      all_below_all s.pages (λ j. ltb j n || is_erased (g j)) (λ j h. elim (dec_lt j n) [
+      all_below_all s.pages (λ j. ltb j n || is_erased (g j)) (λ j h. elim (lt_or_le j n) [
         | inl k ↦ or_l (ltb j n) (is_erased (g j)) (lt→ltb j n k)
         | inr k ↦ or_r (ltb j n) (is_erased (g j)) (f j k h)
       ])
@@ -77,7 +77,7 @@ module _ (s : Shape) (g : Pages) {x : Block} (d : Leads s g x) where
     -- a rule that a fitting page passes, and an erased one
     each-page : (rule : Rule) → ((i : ℕ) → i < x.filled → T (rule s g i)) → ((i : ℕ) → T (is_erased (g i)) → T (rule s g i)) → T (all rule)
     each-page rule f e =
-        all_below_all s.pages (rule s g) (λ i h. elim (dec_lt i x.filled) [
+        all_below_all s.pages (rule s g) (λ i h. elim (lt_or_le i x.filled) [
           | inl k ↦ f i k
           | inr k ↦ e i (erased-past i k h)
         ])
@@ -115,7 +115,7 @@ module _ (s : Shape) (g : Pages) {x : Block} (d : Leads s g x) where
         ∙ cond_yes (W1to4 s g) _ _ all-rules)
 
     pub leading-alone : x ≡ good_block s g
-    leading-alone = elim (dec_lt 0 x.filled) [ inl h ↦ some-lead h | inr h ↦ none-leads (omega arith) ]
+    leading-alone = elim (lt_or_le 0 x.filled) [ inl h ↦ some-lead h | inr h ↦ none-leads (omega arith) ]
 
   -- Where a programmed page comes later, the block breaks a rule: the page after the leading ones is programmed (W1), and does not fit.
   pub leading_ill : (T (blank_from s g x.filled) → ⊥) → not_used Ill ≡ good_block s g
@@ -386,8 +386,8 @@ begun_order s l g {x} spare b {n} d long here u v = go x.ordered refl
     go true e =
         record {
           named = u.named;
-          fit = λ i h. elim (dec_lt 0 i) [ inl k ↦ (later i k h).0 | inr k ↦ u.fit i (omega arith) ];
-          order = e ∙ sym (is_true (in_order s g n) (all_below_all n (λ i. eqb (offset_of s (address_of (g i))) i) (λ i h. elim (dec_lt 0 i) [
+          fit = λ i h. elim (lt_or_le 0 i) [ inl k ↦ (later i k h).0 | inr k ↦ u.fit i (omega arith) ];
+          order = e ∙ sym (is_true (in_order s g n) (all_below_all n (λ i. eqb (offset_of s (address_of (g i))) i) (λ i h. elim (lt_or_le 0 i) [
             | inl k ↦ (later i k h).1
             | inr k ↦ all_below_at 1 (λ i. eqb (offset_of s (address_of (g i))) i) (true_is (in_order s g 1) (sym u.order ∙ e)) i (omega arith)
           ])));

@@ -17,7 +17,7 @@ use Rattle.rules.specs.WellFormed.{Blocks, blocks_of, well_formed}
 use Rattle.rules.specs.Steps.{Step, programs, erases, highest, write_case, numbers_needed}
 use Rattle.rules.specs.Replies.{number, programs_of, erases_of, good_blocks, first_refusal, outside_limits, too_few_good, unrecovered, out_of_numbers, power_up_refusal, read_refusal, write_refusal, block_write_refusal, unless, refused_by, carried_out, power_up_tests, read_tests, writing_tests}
 use Rattle.laws.proofs.First.{first_none, first_by}
-use Rattle.laws.proofs.Tests.{cond_yes, cond_no, dec_lt, nlt→ltb}
+use Rattle.laws.proofs.Tests.{cond_yes, cond_no, lt_or_le, nlt→ltb}
 use Rattle.laws.proofs.Shape.{within_limits_within, within_within_limits}
 use Rattle.laws.proofs.Roles.{well_formed_e, well_formed_i, recovered_e, recovered_i, Recovered}
 use Rattle.laws.proofs.Records.{blocks_of_records}
@@ -157,7 +157,7 @@ module _ (cut : ℕ) (ts : List Step) where
   -- 8 where the list is cut, else 0
   pub done_number : ((number (carried_out cut ts).answer ≡ 0) × (length ts ≤ cut)) ⊎ ((number (carried_out cut ts).answer ≡ 8) × (cut < length ts))
   done_number =
-      elim (dec_lt cut (length ts)) [
+      elim (lt_or_le cut (length ts)) [
         | inl h ↦ inr (ap number (cond_yes (ltb cut (length ts)) _ _ (lt→ltb cut (length ts) h)), h)
         | inr h ↦ inl (ap number (cond_no (ltb cut (length ts)) _ _ (nlt→ltb cut (length ts) h)), h)
       ]

@@ -17,7 +17,7 @@ use Rattle.rules.specs.Page.{Image}
 use Rattle.rules.specs.WellFormed.{Blocks, blocks_of, data_block, live_log}
 use Rattle.rules.specs.Steps.{Step, erase, taken, new_number, copy_step, copies, renewal, contents, merge_list, Case, room, fresh, merging, merge_first, own_step, log_number, programs, part_of}
 use Rattle.rules.specs.Replies.{Reply, carried_out}
-use Rattle.laws.proofs.Tests.{is_true, and_i, dec_lt, eq→eqb}
+use Rattle.laws.proofs.Tests.{is_true, and_i, lt_or_le, eq→eqb}
 use Rattle.laws.proofs.Spare.{spare_bytes_kind, spare_bytes_address}
 use Rattle.laws.proofs.Along.{programs-append, programs-take, programs-erases}
 use Rattle.laws.proofs.Copy.{copies_programs}
@@ -43,7 +43,7 @@ behind_own done pre own post cut no_own own_is =
 
     own-done : done (take cut list) ≡ ltb (length pre) cut
     own-done =
-        elim (dec_lt (length pre) cut) [
+        elim (lt_or_le (length pre) cut) [
           | inl h ↦
               let e : cut ≡ length pre + suc (cut - suc (length pre)) = omega arith in
               ap (λ (k : ℕ). done (take k list)) e ∙ ap done (take-append-add pre (own ∷ post) (suc (cut - suc (length pre))))

@@ -16,7 +16,7 @@ use Rattle.rules.specs.Page.{Image}
 use Rattle.rules.specs.WellFormed.{Blocks, is_obsolete, blocks_of}
 use Rattle.rules.specs.Steps.{Step, erase, erases, steps_done, power_up_list, write_list, part_of, block_write_list}
 use Rattle.rules.specs.Replies.{Reply, number, power_up_refusal, read_refusal, write_refusal, block_write_refusal, carried_out, refused_by, unless, image_left, power_up_reply, read_reply, write_reply, block_write_reply}
-use Rattle.laws.proofs.Tests.{and_i, or_l, or_r, cond_yes, cond_both, dec_lt, eq→eqb}
+use Rattle.laws.proofs.Tests.{and_i, or_l, or_r, cond_yes, cond_both, lt_or_le, eq→eqb}
 use Rattle.laws.proofs.Below.{bit, bit_one, All, all_map, pick_below_all, pick_below_distinct, pick_below_out}
 use Rattle.laws.proofs.Shape.{in_range_block, in_range_small}
 use Rattle.laws.proofs.Roles.{used_below, obsolete_e, Recovered}
@@ -189,7 +189,7 @@ module _ (s : Shape) (im : Image) (x : Command) (cut : ℕ) {pre : List Step} {o
 
   plan_outcome : Outcome s im x (carried_out cut (pre ++ (own ∷ map erase post)))
   plan_outcome =
-      elim (dec_lt (length pre) cut) [
+      elim (lt_or_le (length pre) cut) [
         | inl h ↦
             from-mid p.new (λ l. l ≡ block_written s x) (worth s.pages x) 0 (plan_after s im p.plan cut h) (omega arith) (omega arith) (λ l n e. n e)
             true (lt-ltb (length pre) cut h) (λ y. refl)

@@ -8,7 +8,7 @@ use native.Mathlib.Omega.{arith}
 use lib.ListN.{length, take, get_or, set, replicate, length-set, length-replicate, replicate-append-replicate, get_or-replicate, get_or-eq_default}
 use lib.Seq.{get_or-set_same, get_or-set_other, take-suc-set, take_all}
 use Rattle.rules.specs.Shape.{most}
-use Rattle.laws.proofs.Tests.{dec_eq, dec_lt}
+use Rattle.laws.proofs.Tests.{dec_eq, lt_or_le}
 
 -- its first n elements are f 0, .., f (n - 1), and the others are past
 pub record StoredTo {A : Type 0} (f : ℕ → A) (past : A) (list : List A) (n : ℕ) : Type 0 where
@@ -27,7 +27,7 @@ module _ {A : Type 0} (f : ℕ → A) (past : A) where
     where
       every : (j : ℕ) → get_or (replicate most past) j past ≡ past
       every j =
-          elim (dec_lt j most) [
+          elim (lt_or_le j most) [
             | inl h ↦ get_or-replicate most j past past h
             | inr h ↦ get_or-eq_default (replicate most past) past {n = j} (omega (arith, length-replicate most past))
           ]

@@ -10,7 +10,7 @@ use lib.Seq.{ext_get_or, get_or-append_seam, take_all, take-append-le}
 use lib.Dec.{T, ltb, eqb, ltb→lt, nltb→le, eqb→eq, eqb_refl, T_not}
 use native.Mathlib.Numerals.{add-one}
 use Rattle.rules.specs.Below.{none, is_none, if_any, or_none, lower_of, all_below, count_below, highest_below, first_below, lowest_below, pick_below, list_below}
-use Rattle.laws.proofs.Tests.{tcase, is_true, is_false, and_l, and_r, and_i, cond_yes, cond_no, cond_both, dec_eq, dec_lt, eq→eqb, ne→eqb}
+use Rattle.laws.proofs.Tests.{tcase, is_true, is_false, and_l, and_r, and_i, cond_yes, cond_no, cond_both, dec_eq, lt_or_le, eq→eqb, ne→eqb}
 
 -- what is made of f 0, .., f (n - 1), one after the other, is the same for two that agree there
 below_same : {A B : Type 0} (F : ℕ → (ℕ → A) → B) (G : ℕ → B → A → B) → ((f g : ℕ → A) → F 0 f ≡ F 0 g) → ((n : ℕ) (f : ℕ → A) → F (suc n) f ≡ G n (F n f) (f n))
@@ -252,12 +252,12 @@ module _ (p : ℕ → Bool) where
 
   pub count_below_prefix : (n m : ℕ) → m ≤ n → ((i : ℕ) → i < m → T (p i)) → ((i : ℕ) → m ≤ i → i < n → T (p i) → ⊥) → count_below n p ≡ m
   count_below_prefix n m h pass fail =
-      let first : Before n = λ i j k l t. elim (dec_lt i m) [ inl a ↦ pass j (omega arith) | inr a ↦ absurd (fail i a k t) ] in
+      let first : Before n = λ i j k l t. elim (lt_or_le i m) [ inl a ↦ pass j (omega arith) | inr a ↦ absurd (fail i a k t) ] in
       let c : ℕ = count_below n p in
       let most : c ≤ n = count_below-most n p in
-      elim (dec_lt c m) [
+      elim (lt_or_le c m) [
         | inl k ↦ let l : c < c = (count_below_first n first c (omega arith)).1 (pass c k) in absurd (omega arith)
-        | inr k ↦ elim (dec_lt m c) [
+        | inr k ↦ elim (lt_or_le m c) [
           | inl l ↦ absurd (fail m (omega arith) (omega arith) ((count_below_first n first m (omega arith)).0 l))
           | inr l ↦ omega arith
         ]
@@ -283,7 +283,7 @@ pub highest_below_at : (n : ℕ) (f : ℕ → ℕ) → 0 < highest_below n f →
 unfolding highest_below
 highest_below_at zero f h = absurd (omega arith)
 highest_below_at (suc n) f h =
-    elim (dec_lt (highest_below n f) (f n)) [
+    elim (lt_or_le (highest_below n f) (f n)) [
       | inl l ↦ (n, omega arith, omega arith)
       | inr l ↦ let r = highest_below_at n f (omega arith) in (r.0, omega (arith, r.1), omega (arith, r.2))
     ]
@@ -327,9 +327,9 @@ pub first_below_is : (n : ℕ) (p : ℕ → Bool) (i : ℕ) → n ≤ none → F
 first_below_is n p i h r =
     elim (first_below_found n p h) [
       | inl q ↦
-          elim (dec_lt (first_below n p) i) [
+          elim (lt_or_le (first_below n p) i) [
             | inl k ↦ absurd (r.first (first_below n p) k q.passes)
-            | inr k ↦ elim (dec_lt i (first_below n p)) [ inl l ↦ absurd (q.first i l r.passes) | inr l ↦ omega arith ]
+            | inr k ↦ elim (lt_or_le i (first_below n p)) [ inl l ↦ absurd (q.first i l r.passes) | inr l ↦ omega arith ]
           ]
       | inr q ↦ absurd (q.fails i r.below r.passes)
     ]
@@ -534,7 +534,7 @@ module _ {A : Type 0} where
   -- what is taken of them is all below a number
   pub list_below_some : (n k : ℕ) (f : ℕ → A) → (m : ℕ) × (m ≤ n) × (take k (list_below n f) ≡ list_below m f)
   list_below_some n k f =
-      elim (dec_lt k n) [
+      elim (lt_or_le k n) [
         | inl h ↦ (k, omega arith, list_below_take n k f (omega arith))
         | inr h ↦ (n, omega arith, take_all k (list_below n f) (omega (arith, list_below_length n f)))
       ]

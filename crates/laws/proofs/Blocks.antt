@@ -21,7 +21,7 @@ use Rattle.rules.specs.Page.{Image, page_bytes, page_spare, page_at, is_entry, n
 use Rattle.rules.specs.WellFormed.{not_used, in_order, good_block, bad_mark, is_marked, is_bad, pages_of, block_at, blocks_of, is_good, is_used, is_free}
 use Rattle.rules.specs.Steps.{Step, program, erase, step_done, steps_done, entry_step, copy_step}
 use Rattle.rules.specs.Facts.{Fits}
-use Rattle.laws.proofs.Tests.{is_true, bool_ext, and_i, or_l, or_r, or_e, dec_eq, dec_lt, eq→eqb}
+use Rattle.laws.proofs.Tests.{is_true, bool_ext, and_i, or_l, or_r, or_e, dec_eq, lt_or_le, eq→eqb}
 use Rattle.laws.proofs.Below.{All, all_below_at, list_below_same}
 use Rattle.laws.proofs.Filled.{Filled, used_with, free_good_block, filled_good_block, UsedPages, good_block_free, good_block_used, NextPage, PageAdded, filled_more, in_order_more}
 use Rattle.laws.proofs.Records.{blocks_of_at, blocks_of_outside, pages_of_at, block_at_bad, block_at_good}
@@ -118,7 +118,7 @@ module _ (s : Shape) (im im' : Image) where
 
   pub blocks_of_same : (j : ℕ) → block_at s im j ≡ block_at s im' j → blocks_of s im j ≡ blocks_of s im' j
   blocks_of_same j e =
-      elim (dec_lt j s.blocks) [
+      elim (lt_or_le j s.blocks) [
         | inl h ↦ blocks_of_at s im j h ∙ e ∙ sym (blocks_of_at s im' j h)
         | inr h ↦ blocks_of_outside s im j h ∙ sym (blocks_of_outside s im' j h)
       ]

@@ -13,7 +13,7 @@ use Rattle.rules.specs.Below.{none}
 use Rattle.rules.specs.Spare.{log_kind}
 use Rattle.rules.specs.WellFormed.{Blocks, not_used, is_good, is_free, is_ill, is_used, is_complete, data_number, is_data, is_live, is_obsolete, data_block, live_log, live_logs}
 use Rattle.rules.specs.Replies.{good_blocks}
-use Rattle.laws.proofs.Tests.{cond_yes, cond_no, dec_eq, dec_lt, eq→eqb, ne→eqb}
+use Rattle.laws.proofs.Tests.{cond_yes, cond_no, dec_eq, lt_or_le, eq→eqb, ne→eqb}
 use Rattle.laws.proofs.Below.{bit_le, count_below-le, count_below_move}
 use Rattle.laws.proofs.Roles.{Records, IsData, IsLive, data_e, data_i, live_e, live_i, obsolete_e, obsolete_i, used_roles, data_number_le, data_number_at, data_number_ge, WellFormed, Has, data_block_same, live_log_same, data_block_is, live_log_is}
 
@@ -76,7 +76,7 @@ module _ (s : Shape) (c : Blocks) (b : ℕ) (x : Block) where
   pub data_number_keep : (l : ℕ) → (T (is_data s c b) → ⊥) → (T (is_complete s x) → x.logical ≡ l → ⊥)
       → data_number s (changed c b x) l ≡ data_number s c l
   data_number_keep l nd nx =
-      elim (dec_lt 0 (data_number s c l)) [ inl p ↦ omega (arith, most, least (data_number_at s c l p)) | inr p ↦ omega (arith, most) ]
+      elim (lt_or_le 0 (data_number s c l)) [ inl p ↦ omega (arith, most, least (data_number_at s c l p)) | inr p ↦ omega (arith, most) ]
     where
       most : data_number s c' l ≤ data_number s c l
       most =

@@ -17,7 +17,7 @@ use Rattle.rules.specs.Spare.{copy_kind}
 use Rattle.rules.specs.Shape.{block_of, offset_of, in_range}
 use Rattle.rules.specs.Page.{is_erased, is_entry, number_of, kind_of, address_of}
 use Rattle.rules.specs.WellFormed.{naming, Pages, W1, W2, W3, W4, W1to4, not_used, all_erased, filled_in, in_order, good_block, is_used, is_free}
-use Rattle.laws.proofs.Tests.{tcase, and_l, and_r, and_i, or_l, or_r, or_e, cond_yes, cond_no, dec_eq, dec_lt, eq→eqb, chain_each, each_chain}
+use Rattle.laws.proofs.Tests.{tcase, and_l, and_r, and_i, or_l, or_r, or_e, cond_yes, cond_no, dec_eq, lt_or_le, eq→eqb, chain_each, each_chain}
 use Rattle.laws.proofs.Below.{all_below_at, all_below_all, all_below-same, count_below-most, Before, count_below_first, count_below_prefix}
 use Rattle.laws.proofs.Pages.{is_erased_is, is_entry_is}
 use Rattle.laws.proofs.Records.{good_block_cases, rules_e, W1_before, first_programmed}
@@ -55,7 +55,7 @@ module _ (s : Shape) (g : Pages) where
     -- a rule that an erased page passes
     rule-i : (rest : ℕ → Bool) → ((i : ℕ) → i < m → T (rest i)) → (i : ℕ) → i < s.pages → T (is_erased (g i) || rest i)
     rule-i rest r i h =
-        elim (dec_lt i m) [
+        elim (lt_or_le i m) [
           | inl a ↦ or_r (is_erased (g i)) (rest i) (r i a)
           | inr a ↦ or_l (is_erased (g i)) (rest i) (erased-past i a h)
         ]

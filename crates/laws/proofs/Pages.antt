@@ -18,7 +18,7 @@ use Rattle.rules.specs.Page.{Image, page_bytes, page_spare, erased, page_of, pag
 use Rattle.rules.specs.Steps.{Step, program, erase, step_done, steps_done}
 use Rattle.rules.specs.Facts.{image_of, Fits, Left}
 use Rattle.rules.proofs.Sizes.{block_within}
-use Rattle.laws.proofs.Tests.{tcase, true_is, false_is, and_l, and_i, cond_yes, cond_no, dec_lt}
+use Rattle.laws.proofs.Tests.{tcase, true_is, false_is, and_l, and_i, cond_yes, cond_no, lt_or_le}
 use Rattle.laws.proofs.Bytes.{all255_replicate, all255_at, part_lent, part_replicate, replaced_length, part_replaced_same, part_replaced_inside, part_replaced_before, part_replaced_after}
 use Rattle.laws.proofs.Shape.{page_no_block, page_no_away}
 use Rattle.laws.proofs.Spare.{Kind, InTable, in_table_facts, spare_bytes_number, spare_bytes_kind, spare_bytes_address, spare_bytes_in_table, spare_bytes_not_255}
@@ -189,7 +189,7 @@ module _ (s : Shape) (im : Image) (w : Fits s im) {p : ℕ} {d t : List ℕ} (g 
   unfolding step_done
   program_other q ne =
       let f = fits_page s im w p g.page_in in
-      let away : (q < p) ⊎ (p + 1 ≤ q) = ⊎_elim (λ (h : q < p). inl h) (λ (h : p ≤ q). inr (omega arith)) (dec_lt q p) in
+      let away : (q < p) ⊎ (p + 1 ≤ q) = ⊎_elim (λ (h : q < p). inl h) (λ (h : p ≤ q). inr (omega arith)) (lt_or_le q p) in
       record {
         bytes_are = pages_elsewhere 512 p 1 im.bytes d f.0 g.bytes_long q away;
         spare_are = pages_elsewhere 16 p 1 im.spare t f.1 g.spare_long q away;

@@ -18,7 +18,7 @@ use Rattle.rules.specs.Below.{all_below, list_below}
 use Rattle.rules.specs.Shape.{most, block_of, in_range, page_no}
 use Rattle.rules.specs.Page.{Image, page_bytes, page_spare, page_of, page_at, is_erased, is_entry, number_of, kind_of, address_of}
 use Rattle.rules.specs.WellFormed.{naming, Pages, W1, W2, W3, W4, W1to4, not_used, all_erased, used_block, good_block, is_bad, pages_of, block_at, blocks_of, is_used, is_free}
-use Rattle.laws.proofs.Tests.{tcase, is_true, is_false, and_l, or_e, dec_lt, chain_each}
+use Rattle.laws.proofs.Tests.{tcase, is_true, is_false, and_l, or_e, lt_or_le, chain_each}
 use Rattle.laws.proofs.Below.{all_below_at, all_below_all, count_below-most, list_below_length, list_below_at}
 use Rattle.laws.proofs.Roles.{Records}
 use Rattle.laws.proofs.Spare.{Kind}
@@ -82,7 +82,7 @@ module _ (s : Shape) (g : Pages) where
       erased-at i h =
           elim (tcase (is_erased (g i))) [
             | inl u ↦ u
-            | inr u ↦ elim (dec_lt 0 i) [
+            | inr u ↦ elim (lt_or_le 0 i) [
               | inl k ↦ absurd (W1_before t i 0 h k (T_not (is_erased (g i)) u) e)
               | inr k ↦ let z : i ≡ 0 = omega arith in subst (λ (j : ℕ). T (is_erased (g j))) (sym z) e
             ]
@@ -186,7 +186,7 @@ module _ (s : Shape) (im : Image) where
 
       cases : (j : ℕ) → Q (blocks_of s im j)
       cases j =
-          elim (dec_lt j s.blocks) [
+          elim (lt_or_le j s.blocks) [
             | inl h ↦ rw (blocks_of_at s im j h) (block_at_cases Q j bad (good j))
             | inr h ↦ rw (blocks_of_outside s im j h) bad
           ]

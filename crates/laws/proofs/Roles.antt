@@ -16,7 +16,7 @@ use Rattle.rules.specs.Shape.{most, good_needed}
 use Rattle.rules.specs.WellFormed.{Blocks, not_used, is_good, is_free, is_ill, is_used, no_two, W5, is_complete, data_number, is_data, is_live, W6, is_obsolete, data_block, live_log, live_logs, W7, well_formed}
 use Rattle.rules.specs.Steps.{taken, highest}
 use Rattle.rules.specs.Replies.{good_blocks, unrecovered}
-use Rattle.laws.proofs.Tests.{tcase, bool_ext, and_l, and_r, and_i, cond_yes, dec_lt, eq→eqb, chain_each, each_chain}
+use Rattle.laws.proofs.Tests.{tcase, bool_ext, and_l, and_r, and_i, cond_yes, lt_or_le, eq→eqb, chain_each, each_chain}
 use Rattle.laws.proofs.Below.{all_below_at, all_below_all, bit, bit_le, bit_one, bit_zero, sum_below_le, sum_below_add, sum_below_ones, count_below_sum, count_below_places, highest_below-ge, highest_below-le, highest_below_at, first_below_found, first_below-same}
 
 -- ---- states
@@ -67,7 +67,7 @@ module _ (s : Shape) (c : Blocks) (r : Records s c) where
   -- a good block is a block of the card
   pub good_below : (j : ℕ) → T (is_good (c j).state) → j < s.blocks
   good_below j t =
-      elim (dec_lt j s.blocks) [
+      elim (lt_or_le j s.blocks) [
         | inl h ↦ h
         | inr h ↦ absurd (subst (λ (x : Block). T (is_good x.state)) (r.outside j h) t)
       ]
@@ -219,7 +219,7 @@ module _ (s : Shape) (c : Blocks) where
 
   pub data_number_below : (l n : ℕ) → 0 < n → ((j : ℕ) → j < s.blocks → (c j).number < n) → data_number s c l < n
   data_number_below l n p f =
-      elim (dec_lt 0 (data_number s c l)) [
+      elim (lt_or_le 0 (data_number s c l)) [
         | inl h ↦ let q = data_number_at l h in omega (arith, f q.0 q.1, q.4)
         | inr h ↦ omega arith
       ]
@@ -237,9 +237,9 @@ module _ (s : Shape) (role : ℕ → Bool) (number : ℕ → ℕ) where
 
   one_e : ((j : ℕ) → T (role j) → j < s.blocks) → T (no_two s clash) → One
   one_e below t i j u v e =
-      elim (dec_lt i j) [
+      elim (lt_or_le i j) [
         | inl h ↦ absurd (no j i v u (sym e) h)
-        | inr h ↦ elim (dec_lt j i) [ inl k ↦ absurd (no i j u v e k) | inr k ↦ omega arith ]
+        | inr h ↦ elim (lt_or_le j i) [ inl k ↦ absurd (no i j u v e k) | inr k ↦ omega arith ]
       ]
     where
       no : (i j : ℕ) → T (role i) → T (role j) → number i ≡ number j → j < i → ⊥
@@ -272,7 +272,7 @@ module _ (s : Shape) (c : Blocks) (r : Records s c) where
       let (t₄, (t₅, (t₆, (t₇, _)))) = chain_each none_ill (W5 s c ∷ W6 s c ∷ W7 s c ∷ []) t in
       record {
         records = r;
-        no_ill = λ j u. elim (dec_lt j s.blocks) [
+        no_ill = λ j u. elim (lt_or_le j s.blocks) [
           | inl h ↦ T_not (is_ill (c j).state) (all_below_at s.blocks (λ j. not (is_ill (c j).state)) t₄ j h) u
           | inr h ↦ subst (λ (x : Block). T (is_ill x.state)) (r.outside j h) u
         ];

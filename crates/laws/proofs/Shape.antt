@@ -11,7 +11,7 @@ use Rattle.rules.specs.declared.shape.Shape.{Shape}
 use Rattle.rules.specs.Shape.{most, within_limits, page_no, block_of, offset_of, logical_page, in_range}
 use Rattle.rules.specs.Facts.{Limits, Within}
 use Rattle.rules.proofs.Sizes.{pages_most, block_within, page_within}
-use Rattle.laws.proofs.Tests.{chain_each, each_chain, dec_lt, eq→eqb}
+use Rattle.laws.proofs.Tests.{chain_each, each_chain, lt_or_le, eq→eqb}
 
 -- ---- within_limits
 
@@ -95,7 +95,7 @@ module _ (s : Shape) where
   page_no_away b c i ne h =
       ⊎_elim (λ (k : c < b). inl (page_within k h))
       (λ (k : b ≤ c). let l : b < c = omega arith in inr (omega (arith, block_within s.pages l)))
-      (dec_lt c b)
+      (lt_or_le c b)
 
   module _ (l : Limits s) where
     pub page-place-below : (p : ℕ) → p % s.pages < s.pages

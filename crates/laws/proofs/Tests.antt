@@ -91,8 +91,8 @@ dec_eq m n = go (ℕ_discrete m n)
     go (yes p) = inl p
     go (no q) = inr q
 
-pub dec_lt : (m n : ℕ) → (m < n) ⊎ (n ≤ m)
-dec_lt m n = go (dec_lt m n)
+pub lt_or_le : (m n : ℕ) → (m < n) ⊎ (n ≤ m)
+lt_or_le m n = go (dec_lt m n)
   where
     go : Dec (m < n) → (m < n) ⊎ (n ≤ m)
     go (yes p) = inl p

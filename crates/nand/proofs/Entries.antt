@@ -10,7 +10,7 @@ use lib.ListN.{length, take, drop, length-drop}
 use lib.Seq.{take_all, drop-cons, drop-drop}
 use Rattle.rules.specs.Bytes.{all255, byte, part}
 use Rattle.rules.specs.Spare.{number_in, kind_in, status_in, address_in, in_table}
-use Rattle.laws.proofs.Tests.{dec_lt, bool_ext, eq→eqb, chain_each, each_chain}
+use Rattle.laws.proofs.Tests.{lt_or_le, bool_ext, eq→eqb, chain_each, each_chain}
 use Rattle.laws.proofs.Bytes.{all255_more, all255_at, part_length}
 use Rattle.laws.proofs.Spare.{InTable, facts_in_table, in_table_facts}
 use Rattle.nand.specs.Entries.{Word, OfTable, is_entry_of}
@@ -53,9 +53,9 @@ word_255 t i {w} h u =
 -- two digits of base 256, or the lowest and all the others
 digits : (a b x y : ℕ) → a < 256 → b < 256 → a + x * 256 ≡ b + y * 256 → (a ≡ b) × (x ≡ y)
 digits a b x y small small' e =
-    elim (dec_lt x y) [
+    elim (lt_or_le x y) [
       | inl h ↦ absurd (omega arith)
-      | inr h ↦ elim (dec_lt y x) [
+      | inr h ↦ elim (lt_or_le y x) [
         | inl k ↦ absurd (omega arith)
         | inr k ↦ (omega arith, omega arith)
       ]

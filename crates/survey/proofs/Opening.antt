@@ -14,7 +14,7 @@ use Rattle.rules.specs.Page.{Image}
 use Rattle.rules.specs.Facts.{Fits}
 use Rattle.rules.specs.WellFormed.{Blocks, is_good, blocks_of}
 use Rattle.rules.specs.Replies.{good_blocks, too_few_good}
-use Rattle.laws.proofs.Tests.{dec_lt}
+use Rattle.laws.proofs.Tests.{lt_or_le}
 use Rattle.laws.proofs.First.{first_by, unless_no, unless_yes, unless-none}
 use Rattle.laws.proofs.Below.{count_below-most}
 use Rattle.laws.proofs.Records.{blocks_of_at, blocks_of_outside, block_at_number, block_at_logical, blocks_of_records}
@@ -46,13 +46,13 @@ module _ (s : Shape) (im : Image) (w : Fits s im) (enough : too_few_good s (bloc
       let l = few_logical in
       record {
         few = records.few;
-        small = λ j. elim (dec_lt j s.blocks) [
+        small = λ j. elim (lt_or_le j s.blocks) [
           | inl h ↦ rw (blocks_of_at s im j h) (elim (block_at_logical s im some j) [ inl z ↦ omega arith | inr z ↦ omega arith ])
           | inr h ↦ rw (blocks_of_outside s im j h) (omega arith)
         ];
         outside = records.outside;
         fits = records.fits;
-        numbered = λ j. elim (dec_lt j s.blocks) [
+        numbered = λ j. elim (lt_or_le j s.blocks) [
           | inl h ↦ rw (blocks_of_at s im j h) (block_at_number s im some j)
           | inr h ↦ rw (blocks_of_outside s im j h) refl
         ];

@@ -9,21 +9,21 @@ use mathlib.Mathlib.Data.Bool.Basic.{partial_order_laws}
 use Rattle.rules.proofs.shape.Shape.in_range.Statement.{statement}
 use Rattle.rules.proofs.shape.Shape.in_range.Tie as tie
 
-returns : tie.Need-returns
+returns : tie.Need-returns-then-pages-eq0
 returns c =
     let start : tie.Start = search (c) in
     let L = start.args.self.logical in
-    let none : L * start.args.self.pages ≡ 0 = ap (λ (P : ℕ). L * P) c.if1.true ∙ mul-zero L in
+    let none : L * start.args.self.pages ≡ 0 = ap (λ (P : ℕ). L * P) c.if-pages-eq0.true ∙ mul-zero L in
     sym (le-ltb start.args.a (L * start.args.self.pages) (omega arith))
 
-returns-2 : tie.Need-returns-2
+returns-2 : tie.Need-returns
 returns-2 c =
     let start : tie.Start = search (c) in
-    let test : tie.Else1 = search (c) in
+    let test : tie.Else-pages-eq0 = search (c) in
     let a = start.args.a in
     let P = start.args.self.pages in
     let L = start.args.self.logical in
-    let some : 0 < P = let ne = test.if1.left in omega arith in
+    let some : 0 < P = let ne = test.if-pages-eq0.false in omega arith in
     let same = div-lt_iff_lt-mul {k = P} {x = a} {y = L} some in
     partial_order_laws.le_antisymm _ _ (λ t. lt-ltb a (L * P) (same.0 (ltb-true (a / P) L t))) (λ t. lt-ltb (a / P) L (same.1 (ltb-true a (L * P) t)))
 

@@ -4,7 +4,7 @@ use Rattle.rules.proofs.Sizes.{pages_most}
 use Rattle.rules.proofs.shape.Shape.page_spare.Statement.{statement}
 use Rattle.rules.proofs.shape.Shape.page_spare.Tie as tie
 
-mul-result : tie.Need-overflow-mul-result
+mul-result : tie.Need-overflow_mul-result
 mul-result c = omega (arith, pages_most c.requires.0.blocks_high c.requires.0.pages_high)
 
 pub page_spare_spec : {M : Type 1} → statement M

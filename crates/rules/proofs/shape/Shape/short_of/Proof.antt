@@ -7,10 +7,10 @@ use Rattle.rules.specs.Shape.{good_needed}
 use Rattle.rules.proofs.shape.Shape.short_of.Statement.{statement}
 use Rattle.rules.proofs.shape.Shape.short_of.Tie as tie
 
-returns : tie.Need-returns
+returns : tie.Need-returns-then-good-logical
 returns c = sym (lt-ltb c.before.args.good (good_needed c.before.args.self) (omega arith))
 
-returns-2 : tie.Need-returns-2
+returns-2 : tie.Need-returns
 returns-2 c =
     let s = c.before.before.args.self in
     let good = c.before.before.args.good in

@@ -10,13 +10,13 @@ use Rattle.rules.proofs.Sizes.{pages_most}
 use Rattle.rules.proofs.shape.Shape.within.Statement.{statement}
 use Rattle.rules.proofs.shape.Shape.within.Tie as tie
 
-abbrev start : tie.Else6 → tie.Start
+abbrev start : tie.Else-self-lt1-2 → tie.Start
 start c = c.before.before.before.before.before.before.before.before
 
-fitting : (c : tie.Else6) → (start c).args.self.blocks * (start c).args.self.pages ≤ most * 32
+fitting : (c : tie.Else-self-lt1-2) → (start c).args.self.blocks * (start c).args.self.pages ≤ most * 32
 fitting c = pages_most (omega arith) (omega arith)
 
-all-passed : tie.Need-returns-8
+all-passed : tie.Need-returns
 unfolding within_limits
 all-passed c =
     let s = (start c.before).args.self in
@@ -27,7 +27,7 @@ all-passed c =
       le-leb s.blocks most (omega arith),
       le-leb 1 s.logical (omega arith),
       le-leb 1 s.logs (omega arith),
-      eq-eqb _ _ c.if7.false,
+      eq-eqb _ _ c.if-bytes-blocks.false,
     )
 
 pub within_spec : {M : Type 1} → statement M
@@ -35,15 +35,15 @@ unfolding within_limits
 within_spec =
     tie.close
     (tie.spec
-    (λ c. simp (lt-leb _ _ c.if1.true))
-    (λ c. simp (lt-leb _ _ c.if2.true, and-false))
-    (λ c. simp (lt-leb _ _ c.if3.true, and-false))
-    (λ c. simp (lt-leb _ _ c.if4.true, and-false))
-    (λ c. simp (lt-leb _ _ c.if5.true, and-false))
-    (λ c. simp (lt-leb _ _ c.if6.true, and-false))
+    (λ c. simp (lt-leb _ _ c.if-pages-lt2.true))
+    (λ c. simp (lt-leb _ _ c.if-pages-gt32.true, and-false))
+    (λ c. simp (lt-leb _ _ c.if-blocks-lt3.true, and-false))
+    (λ c. simp (lt-leb _ _ c.if-blocks-gt-MOST.true, and-false))
+    (λ c. simp (lt-leb _ _ c.if-self-lt1.true, and-false))
+    (λ c. simp (lt-leb _ _ c.if-self-lt1-2.true, and-false))
     (λ c. omega (arith, fitting c))
     (λ c. omega (arith, fitting c))
-    (λ c. simp (ne_eqb _ _ c.if7.true, and-false))
+    (λ c. simp (ne_eqb _ _ c.if-bytes-blocks.true, and-false))
     (λ c. search rules)
     (λ c. search rules)
     all-passed)
