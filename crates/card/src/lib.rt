@@ -1,4 +1,7 @@
 // The card: format, power-up, read, write, block write and page lending, over a lent image. Each takes any slices and any numbers.
+
+#![tactic(auto)]
+
 ghost use Rattle.rules.specs.Facts.{image_of};
 ghost use Rattle.rules.specs.Promises.{Given, FormatDone, PowerUpDone, ReadDone, WriteDone, BlockWriteDone, LentAt, Lent};
 

@@ -1,4 +1,7 @@
 // A logical block made anew; and the plan of a write carried out: the merge, if there is one, the page itself, and the erase of a block that it makes useless.
+
+#![tactic(auto)]
+
 ghost use Rattle.std.specs.Prelude.{◌≡◌, [], ◌∷◌, map, ◌<◌, length};
 ghost use Rattle.rules.specs.Below.{if_any};
 ghost use Rattle.rules.specs.Steps.{erase};

@@ -9,6 +9,9 @@
 // A line has the word, the answer with its programs and erases, what power-up or read gave (the table; the sum of the page), and the sums
 // of the image after it (data bytes, spare bytes). A sum is of each byte times its place, from 1 on.
 // `host/second/examples/cases.rs` writes the same lines by the second program.
+
+#![tactic(auto)]
+
 ghost use Rattle.std.specs.Prelude.{◌≡◌, ◌≤◌, length};
 
 mod commands;

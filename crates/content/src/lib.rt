@@ -1,4 +1,7 @@
 // The content of a logical page: where it is, and a copy of it.
+
+#![tactic(auto)]
+
 ghost use Rattle.std.specs.Prelude.{◌≡◌, ◌*◌, length};
 ghost use Rattle.rules.specs.Facts.{Limits, Within, image_of};
 ghost use Rattle.rules.specs.Content.{content};

@@ -1,4 +1,7 @@
 // The commands for C and C++, as include/hamutsigra.h declares them: each slice is a pointer and a length there.
+
+#![tactic(auto)]
+
 ghost use Rattle.std.specs.Prelude.{◌≡◌};
 ghost use Rattle.rules.specs.Facts.{image_of};
 ghost use Rattle.rules.specs.Promises.{Given, FormatDone, PowerUpDone, ReadDone, WriteDone, BlockWriteDone};

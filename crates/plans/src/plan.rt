@@ -18,7 +18,7 @@ use rules::block::Block;
 use rules::shape::{MOST, Shape};
 use rules::test;
 
-#[derive(Drop)]
+#[derive(Clone, Copy)]
 pub struct Plan {
     // new numbers needed: 0 with room in the log block, 1 with a fresh one, 2 after a merge
     pub needed: u32,

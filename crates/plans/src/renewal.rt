@@ -5,7 +5,7 @@ ghost use Rattle.plans.specs.Plans.{renewal_by};
 use roles::census::Census;
 use roles::seats::Seats;
 
-#[derive(Drop)]
+#[derive(Clone, Copy)]
 pub struct Renewal {
     // the logical block, the block taken, its log block and its data block
     pub logical: usize,

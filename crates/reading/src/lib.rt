@@ -1,4 +1,7 @@
 // Read and lend: the content of a logical page, copied or lent.
+
+#![tactic(auto)]
+
 ghost use Rattle.rules.specs.Facts.{image_of};
 ghost use Rattle.rules.specs.Promises.{ReadDone, LentAt, Lent};
 

@@ -1,4 +1,7 @@
 // The refusals: the lowest number that applies, 0 for none.
+
+#![tactic(auto)]
+
 ghost use Rattle.std.specs.Prelude.{◌≡◌, ◌*◌, ◌<◌, eqb};
 ghost use Rattle.refusals.specs.Orders.{call_refusal, late_refusal};
 

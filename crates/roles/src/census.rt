@@ -10,7 +10,7 @@ use rules::block::Block;
 use rules::shape::{MOST, Shape};
 use rules::test;
 
-#[derive(Drop)]
+#[derive(Clone, Copy)]
 pub struct Census {
     // no block is ill
     pub sound: bool,

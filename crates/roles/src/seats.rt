@@ -8,7 +8,7 @@ use rules::shape::{MOST, Shape};
 use rules::test;
 
 // The data block and the live log block of a logical block, NONE for none.
-#[derive(Drop)]
+#[derive(Clone, Copy)]
 pub struct Seats {
     pub data: usize,
     pub log: usize,

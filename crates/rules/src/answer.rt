@@ -2,7 +2,7 @@ ghost use Rattle.std.specs.Prelude.{◌≡◌};
 ghost use Rattle.rules.specs.Replies.{number, programs_of, erases_of};
 
 // What the card replies.
-#[derive(Drop)]
+#[derive(Clone, Copy)]
 pub enum Answer {
     // all done
     Done { programs: usize, erases: usize },

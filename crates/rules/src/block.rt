@@ -5,7 +5,7 @@ use super::shape::Shape;
 use super::test;
 
 // A block is bad, or good; a good one is free or used. A used block that breaks one of W1 to W4 is ill.
-#[derive(Drop)]
+#[derive(Clone, Copy)]
 pub enum State {
     Bad,
     Free,
@@ -14,7 +14,7 @@ pub enum State {
 }
 
 // The record kept for each physical block. All but the state is 0 or false unless the block is used.
-#[derive(Drop)]
+#[derive(Clone, Copy)]
 pub struct Block {
     pub state: State,
     // 240 log, 15 copy

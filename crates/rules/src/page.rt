@@ -1,5 +1,5 @@
 // What a page says.
-#[derive(Drop)]
+#[derive(Clone, Copy)]
 pub enum Page {
     // all 528 bytes are 255
     Erased,

@@ -1,5 +1,5 @@
 // The flash page that holds a logical page, if there is one.
-#[derive(Drop)]
+#[derive(Clone, Copy)]
 pub enum Place {
     At(usize),
     Nowhere,

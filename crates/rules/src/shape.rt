@@ -6,7 +6,7 @@ ghost use Rattle.rules.specs.Facts.{Limits};
 pub const MOST: usize = 64;
 
 // The shape of a card is four numbers.
-#[derive(Drop)]
+#[derive(Clone, Copy)]
 pub struct Shape {
     // P, pages per block
     pub pages: usize,

@@ -11,7 +11,7 @@ use rules::answer::Answer;
 use rules::shape::Shape;
 
 // What is left of the cut number, whether a step was left undone, and the steps done.
-#[derive(Drop)]
+#[derive(Clone, Copy)]
 pub struct Budget {
     left: usize,
     pub short: bool,

@@ -1,4 +1,7 @@
 // The opening of a command: refusals 1 to 5, and what the records of the card show.
+
+#![tactic(auto)]
+
 ghost use Rattle.std.specs.Prelude.{◌≡◌, replicate};
 ghost use Rattle.rules.specs.Shape.{most};
 ghost use Rattle.rules.specs.Facts.{image_of};
@@ -12,7 +15,7 @@ use roles::{census, numbers};
 use rules::shape::{MOST, Shape};
 
 // What the records show; where `refusal` is not 0, no record was counted.
-#[derive(Drop)]
+#[derive(Clone, Copy)]
 pub struct Survey {
     pub census: Census,
     pub refusal: u8,

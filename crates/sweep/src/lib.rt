@@ -1,4 +1,7 @@
 // Format and power-up: the blocks that go are erased, ascending.
+
+#![tactic(auto)]
+
 ghost use Rattle.std.specs.Prelude.{◌≡◌, ◌&&◌, not, length};
 ghost use Rattle.rules.specs.Facts.{Within, image_of};
 ghost use Rattle.rules.specs.WellFormed.{is_good, is_free};

@@ -1,4 +1,7 @@
 // The record of a block as one word. A reference to an array of words is lent where one to an array of structs is not taken by the prover.
+
+#![tactic(auto)]
+
 ghost use Rattle.std.specs.Prelude.{◌≡◌, cond, ◌≤◌};
 ghost use Rattle.words.specs.Words.{state_number, state_of, kind_number, kind_for, packed, unpacked};
 

@@ -1,4 +1,7 @@
 // Write and block write: the refusals, the plan, its steps.
+
+#![tactic(auto)]
+
 ghost use Rattle.rules.specs.Facts.{image_of};
 ghost use Rattle.rules.specs.Promises.{WriteDone, BlockWriteDone};
 

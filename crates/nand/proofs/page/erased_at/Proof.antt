@@ -8,12 +8,12 @@ use Rattle.nand.proofs.page.erased_at.Tie as tie
 returns : tie.Need-returns
 returns c =
     let start : tie.Start = search (c) in
-    let at : tie.After-page-bytes = search (c) in
-    let from : tie.After-page-spare = search (c) in
+    let at : tie.After-page_bytes-at = search (c) in
+    let from : tie.After-page_spare-from = search (c) in
     let a = start.args in
-    c.page-erased.ensures ∙ sym (is_erased-page_of _ _)
+    c.page_erased.ensures ∙ sym (is_erased-page_of _ _)
     ∙ ap is_erased
-    (page_at_lent a.bytes.now a.spare.now a.p at.page-bytes.result from.page-spare.result at.page-bytes.ensures from.page-spare.ensures)
+    (page_at_lent a.bytes.now a.spare.now a.p at.page_bytes-at.result from.page_spare-from.result at.page_bytes-at.ensures from.page_spare-from.ensures)
 
 pub erased_at_spec : {M : Type 1} → statement M
 erased_at_spec =

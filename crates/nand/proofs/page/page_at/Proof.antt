@@ -7,11 +7,11 @@ use Rattle.nand.proofs.page.page_at.Tie as tie
 returns : tie.Need-returns
 returns c =
     let start : tie.Start = search (c) in
-    let at : tie.After-page-bytes = search (c) in
-    let from : tie.After-page-spare = search (c) in
+    let at : tie.After-page_bytes-at = search (c) in
+    let from : tie.After-page_spare-from = search (c) in
     let a = start.args in
-    c.read-page.ensures
-    ∙ page_at_lent a.bytes.now a.spare.now a.p at.page-bytes.result from.page-spare.result at.page-bytes.ensures from.page-spare.ensures
+    c.read_page.ensures
+    ∙ page_at_lent a.bytes.now a.spare.now a.p at.page_bytes-at.result from.page_spare-from.result at.page_bytes-at.ensures from.page_spare-from.ensures
 
 pub page_at_spec : {M : Type 1} → statement M
 page_at_spec =

@@ -9,24 +9,24 @@ use Rattle.rules.specs.Page.{erased}
 use Rattle.nand.proofs.page.page_erased.Statement.{statement}
 use Rattle.nand.proofs.page.page_erased.Tie as tie
 
-returns : tie.Need-returns
+returns : tie.Need-returns-then-not-all_255
 unfolding erased
 returns c =
     let start : tie.Start = search (c) in
-    let asked : tie.After-all-255 = search (c) in
+    let asked : tie.After-all_255 = search (c) in
     let marks = start.args.marks.now in
-    let e : all255 marks ≡ false = ap all255 (sym (take_all 16 marks (omega arith))) ∙ sym asked.all-255.ensures ∙ not-true _ c.if1.true in
+    let e : all255 marks ≡ false = ap all255 (sym (take_all 16 marks (omega arith))) ∙ sym asked.all_255.ensures ∙ c.if-not-all_255.true in
     simp e
 
-returns-2 : tie.Need-returns-2
+returns-2 : tie.Need-returns
 unfolding erased
 returns-2 c =
     let start : tie.Start = search (c) in
-    let asked : tie.After-all-255 = search (c) in
-    let test : tie.Else1 = search (c) in
+    let asked : tie.After-all_255 = search (c) in
+    let test : tie.Else-not-all_255 = search (c) in
     let marks = start.args.marks.now in
-    let e : all255 marks ≡ true = ap all255 (sym (take_all 16 marks (omega arith))) ∙ sym asked.all-255.ensures ∙ not-false _ test.if1.left in
-    simp e c.data-erased.ensures
+    let e : all255 marks ≡ true = ap all255 (sym (take_all 16 marks (omega arith))) ∙ sym asked.all_255.ensures ∙ test.if-not-all_255.false in
+    simp e c.data_erased.ensures
 
 pub page_erased_spec : {M : Type 1} → statement M
 page_erased_spec =

@@ -9,34 +9,34 @@ use Rattle.laws.proofs.Pages.{page_of_erased, page_of-in_table, page_of_junk}
 use Rattle.nand.proofs.page.read_page.Statement.{statement}
 use Rattle.nand.proofs.page.read_page.Tie as tie
 
-returns : tie.Need-returns
+returns : tie.Need-returns-then-in_table
 returns c =
     let start : tie.Start = search (c) in
-    let table : tie.After-in-table = search (c) in
-    let test : tie.Then1 = search (c) in
-    let number : tie.After-number-in = search (c) in
+    let table : tie.After-in_table = search (c) in
+    let test : tie.Then-in_table = search (c) in
+    let number : tie.After-number_in = search (c) in
     let t : List ℕ = start.args.marks.now in
-    ap (λ (n : ℕ). Entry n (kind_in t) c.address-in.result) number.number_in.ensures
-    ∙ ap (Entry (number_in t) (kind_in t)) c.address-in.ensures
-    ∙ sym (page_of-in_table start.args.page.now t start.pre.1 (true_is _ (sym table.in_table.ensures ∙ test.if1.taken)))
+    ap (λ (n : ℕ). Entry n (kind_in t) c.address_in.result) number.number_in.ensures
+    ∙ ap (Entry (number_in t) (kind_in t)) c.address_in.ensures
+    ∙ sym (page_of-in_table start.args.page.now t start.requires.1 (true_is _ (sym table.in_table.ensures ∙ test.if-in_table.true)))
 
-returns-2 : tie.Need-returns-2
+returns-2 : tie.Need-returns-then-page_erased
 returns-2 c =
     let start : tie.Start = search (c) in
-    let told : tie.After-page-erased = search (c) in
+    let told : tie.After-page_erased = search (c) in
     let a = start.args in
-    sym (page_of_erased a.page.now a.marks.now (true_is _ (sym told.page-erased.ensures ∙ c.if2.true)))
+    sym (page_of_erased a.page.now a.marks.now (true_is _ (sym told.page_erased.ensures ∙ c.if-page_erased.true)))
 
-returns-3 : tie.Need-returns-3
+returns-3 : tie.Need-returns
 returns-3 c =
     let start : tie.Start = search (c) in
-    let table : tie.After-in-table = search (c) in
-    let other : tie.Else1 = search (c) in
-    let told : tie.After-page-erased = search (c) in
+    let table : tie.After-in_table = search (c) in
+    let other : tie.Else-in_table = search (c) in
+    let told : tie.After-page_erased = search (c) in
     let a = start.args in
     sym
-    (page_of_junk a.page.now a.marks.now (false_is _ (sym told.page-erased.ensures ∙ c.if2.false))
-    (false_is _ (sym table.in_table.ensures ∙ other.if1.left)))
+    (page_of_junk a.page.now a.marks.now (false_is _ (sym told.page_erased.ensures ∙ c.if-page_erased.false))
+    (false_is _ (sym table.in_table.ensures ∙ other.if-in_table.false)))
 
 pub read_page_spec : {M : Type 1} → statement M
 read_page_spec =

@@ -22,10 +22,10 @@ returns c =
     let p₅ = p₄.before.before in
     let start = p₅.before.before in
     let t = start.args.t.now in
-    let number = p₄.and.ensures ∙ ap (λ (n : ℕ). leb 1 n && leb n number_limit) p₅.number_in.ensures in
+    let number = p₄.and-number.ensures ∙ ap (λ (n : ℕ). leb 1 n && leb n number_limit) p₅.number_in-n.ensures in
     let long : length (drop 8 t) ≤ 8 = simp length-drop (omega (arith, start.requires)) in
-    let rest = p₂.all-255.ensures ∙ ap all255 (take_all 8 (drop 8 t) long) in
-    and_is c.and4.ensures (and_is c.before.and3.ensures (and_is p₁.and2.ensures number p₃.or.ensures) refl) rest
+    let rest = p₂.all_255-rest.ensures ∙ ap all255 (take_all 8 (drop 8 t) long) in
+    and_is c.and-3.ensures (and_is c.before.and-2.ensures (and_is p₁.and.ensures number p₃.or-kind.ensures) refl) rest
 
 pub in_table_spec : {M : Type 1} → statement M
 in_table_spec =

@@ -18,13 +18,13 @@ Room c =
 room : (c : tie.Start) → Room c
 room c = let a = c.args in fits_block a.s (image_of a.bytes.now a.spare.now) c.requires.0 a.b c.requires.1
 
-add-long : tie.Need-overflow-add-fill-255
+add-long : tie.Need-overflow_add-at
 add-long c = omega (arith, room c.before.before.before)
 
-long-end : tie.Need-slice-bounds-fill-255-end
+long-end : tie.Need-slice_bounds-fill_255-end
 long-end c = omega (arith, room c.before.before.before)
 
-short-end : tie.Need-slice-bounds-fill-255-end-2
+short-end : tie.Need-slice_bounds-fill_255-end-2
 short-end c = omega (arith, room c.before.before.before.before.before.before.before.before)
 
 returns : tie.Need-returns
@@ -34,8 +34,8 @@ returns c =
     let second = c.before.before in
     let start = first.before.before.before.before.before in
     let a = start.args in
-    let at = first.before.before.block-bytes in
-    let from = second.before.before.block-spare in
+    let at = first.before.before.block_bytes-at in
+    let from = second.before.before.block_spare-from in
     let long : ℕ = a.s.pages * 512 in
     let short : ℕ = a.s.pages * 16 in
     let here : at.result + long ≤ length a.bytes.now = omega (arith, room start, at.ensures) in
@@ -43,10 +43,10 @@ returns c =
     record {
       bytes_are =
           replaced_lent a.bytes.now (replicate long 255) _ (a.b * a.s.pages * 512) _ long at.ensures
-          (first.fill-255.ensures ∙ ap (λ (k : ℕ). replicate k 255) (part_lent_length a.bytes.now at.result long here));
+          (first.fill_255.ensures ∙ ap (λ (k : ℕ). replicate k 255) (part_lent_length a.bytes.now at.result long here));
       spare_are =
           replaced_lent a.spare.now (replicate short 255) _ (a.b * a.s.pages * 16) _ short from.ensures
-          (second.fill-2552.ensures ∙ ap (λ (k : ℕ). replicate k 255) (part_lent_length a.spare.now from.result short there));
+          (second.fill_255-2.ensures ∙ ap (λ (k : ℕ). replicate k 255) (part_lent_length a.spare.now from.result short there));
     }
 
 -- The lengths stay: a lent part that comes back (`.given`) leaves its image as long as it was.
@@ -55,4 +55,4 @@ erase_block_spec =
     tie.close
     (tie.spec (λ c κs. search rules) (λ c. search rules) add-long (λ c. search rules) (λ c. search rules) long-end (λ c κs. search rules)
     (λ c κs. search rules) (λ c. search rules) (λ c. search rules) (λ c. search rules) (λ c. search rules) short-end (λ c κs. search rules)
-    (λ c. c.before.before.before.before.before.before.bytes.given.1) (λ c. c.before.spare.given.1) returns)
+    (λ c. c.before.before.before.before.before.before.bytes-1.given.1) (λ c. c.before.spare-1.given.1) returns)
