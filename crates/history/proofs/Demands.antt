@@ -19,7 +19,7 @@ use Rattle.rules.specs.Steps.{format_list, Step, steps_done, power_up_list, numb
 use Rattle.rules.specs.Replies.{first_refusal, writing_tests, format_refusal, format_reply, number, shape_for, image_left, carried_out, refused_by, unless, read_refusal, power_up_refusal, write_refusal, block_write_refusal, read_reply, power_up_reply, write_reply, block_write_reply, table_of, table_left, page_left, lent_page, lent_bytes}
 use Rattle.laws.proofs.Tests.{chain_each, eq→eqb}
 use Rattle.laws.proofs.Roles.{Recovered, taken_free}
-use Rattle.history.specs.History.{Command, read, write, block_write, power_up, reply_to, Event, History, format, formatted_image, end, shape, events, page_after, last_from, last_write, writes_in, cuts_in, erases_in, FallIn, steps_in, never_twice, FindErased, left_alone}
+use Rattle.history.specs.History.{Tells, Command, read, write, block_write, power_up, reply_to, Event, History, format, formatted_image, end, shape, events, page_after, last_from, last_write, writes_in, cuts_in, erases_in, FallIn, steps_in, never_twice, FindErased, left_alone}
 use Rattle.history.specs.Demands.{CountsAreOfTheSteps, ReadsTheLastWrite, OneMoreCommand, OnAnyImage, LendsWhatIsRead, NeverProgrammedTwice, BadBlocksStay, SameBadBlocks, StaysWellFormed, AtMostTwiceTheWrites, FewLogicalBlocks, ShortLists, BlockWriteLists, RecoveredCard, WriteIsTaken, BlockWriteIsTaken, PowerUpRecovers, TableOfTheImageLeft, WriteLeavesRecovered, BlockWriteLeavesRecovered, ThereIsAFreeBlock, AFreeBlockAfterTheMerge}
 use Rattle.laws.proofs.Along.{AllAllowed, allowed_take, allowed_append}
 use Rattle.laws.proofs.Erasing.{Sound, content_of, SamePlaces}
@@ -196,7 +196,7 @@ pub counts_are_of_the_steps : CountsAreOfTheSteps
 unfolding format_reply read_reply write_reply block_write_reply power_up_reply
 counts_are_of_the_steps s im = (
   (λ cut. counts_told (format_refusal s im c) cut (format_list s c)),
-  λ x. elim x [
+  λ x. elim x as (λ k. Tells (reply_to s im k)) [
     | read a buffer ↦ counts_told (read_refusal s im c (length buffer) a) 0 []
     | write a d cut ↦ counts_told (write_refusal s im c (length d) a) cut (write_list s im c a d)
     | block_write l d cut ↦ counts_told (block_write_refusal s im c (length d) l) cut (block_write_list s c l d)

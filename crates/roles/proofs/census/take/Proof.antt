@@ -10,62 +10,62 @@ use Rattle.roles.proofs.Passes.{census_to_none, census_to_few, counted_turn, num
 use Rattle.roles.proofs.census.take.Statement.{statement}
 use Rattle.roles.proofs.census.take.Tie as tie
 
-abbrev invariant-loop : tie.invariant-loop
-invariant-loop s list numbers blocks t₀ j₀ t j = (j ≤ blocks) × (t ≡ census_to s (records_in list) j)
+abbrev invariant-loop-j : tie.invariant-loop-j
+invariant-loop-j s list numbers blocks t₀ j₀ t j = (j ≤ blocks) × (t ≡ census_to s (records_in list) j)
 
-abbrev decreases-loop : tie.decreases-loop
-decreases-loop s list numbers blocks t₀ j₀ t j = blocks - j
+abbrev decreases-loop-j : tie.decreases-loop-j
+decreases-loop-j s list numbers blocks t₀ j₀ t j = blocks - j
 
-loop-holds : tie.Need-loop-init invariant-loop decreases-loop
+loop-holds : tie.Need-loop-j-init invariant-loop-j decreases-loop-j
 loop-holds c =
-    let start : tie.Start invariant-loop decreases-loop = search (c) in
-    let r = start.pre.recorded in
+    let start : tie.Start invariant-loop-j decreases-loop-j = search (c) in
+    let r = start.requires.recorded in
     let few = r.few in
-    let blank : tie.After-blank invariant-loop decreases-loop = search (c) in
-    (omega arith, blank.blank.ensures ∙ census_to_none start.args.s (records_in start.args.list.now) (ap (λ (x : Block). x.number) (r.outside none (omega arith))))
+    let blank : tie.After-blank-t invariant-loop-j decreases-loop-j = search (c) in
+    (omega arith, blank.blank-t.ensures ∙ census_to_none start.args.s (records_in start.args.list.now) (ap (λ (x : Block). x.number) (r.outside none (omega arith))))
 
-element-copy-out-unpack : tie.Need-element-copy-out-unpack invariant-loop decreases-loop
-element-copy-out-unpack c =
-    let start : tie.Start invariant-loop decreases-loop = search (c) in
-    let few = start.pre.recorded.few in
+element_copy_out-unpack : tie.Need-bounds-list-j invariant-loop-j decreases-loop-j
+element_copy_out-unpack c =
+    let start : tie.Start invariant-loop-j decreases-loop-j = search (c) in
+    let few = start.requires.recorded.few in
     omega arith
 
-element-copy-out-d : tie.Need-element-copy-out-d invariant-loop decreases-loop
-element-copy-out-d c =
-    let start : tie.Start invariant-loop decreases-loop = search (c) in
-    let turn : tie.At-loop invariant-loop decreases-loop = search (c) in
-    let x : tie.After-unpack invariant-loop decreases-loop = search (c) in
-    (number_at start.pre turn.loop.j x.unpack.ensures).0
+element_copy_out-d : tie.Need-bounds-numbers-at invariant-loop-j decreases-loop-j
+element_copy_out-d c =
+    let start : tie.Start invariant-loop-j decreases-loop-j = search (c) in
+    let turn : tie.At-loop-j invariant-loop-j decreases-loop-j = search (c) in
+    let x : tie.After-unpack-x invariant-loop-j decreases-loop-j = search (c) in
+    (number_at start.requires turn.loop-j.j x.unpack-x.ensures).0
 
-count-requires : tie.Need-count-requires invariant-loop decreases-loop
+count-requires : tie.Need-count-t-requires invariant-loop-j decreases-loop-j
 count-requires c κs =
-    let start : tie.Start invariant-loop decreases-loop = search (c) in
-    let turn : tie.At-loop invariant-loop decreases-loop = search (c) in
-    let few = start.pre.recorded.few in
-    let live = census_to_few start.args.s (records_in start.args.list.now) turn.loop.j turn.loop.inv.1 in
+    let start : tie.Start invariant-loop-j decreases-loop-j = search (c) in
+    let turn : tie.At-loop-j invariant-loop-j decreases-loop-j = search (c) in
+    let few = start.requires.recorded.few in
+    let live = census_to_few start.args.s (records_in start.args.list.now) turn.loop-j.j turn.loop-j.invariant.1 in
     omega arith
 
-loop-again : tie.Need-loop-preserved invariant-loop decreases-loop
+loop-again : tie.Need-loop-j-preserved invariant-loop-j decreases-loop-j
 loop-again c =
-    let start : tie.Start invariant-loop decreases-loop = search (c) in
-    let turn : tie.At-loop invariant-loop decreases-loop = search (c) in
-    let x : tie.After-unpack invariant-loop decreases-loop = search (c) in
-    let counted : tie.After-count invariant-loop decreases-loop = search (c) in (
+    let start : tie.Start invariant-loop-j decreases-loop-j = search (c) in
+    let turn : tie.At-loop-j invariant-loop-j decreases-loop-j = search (c) in
+    let x : tie.After-unpack-x invariant-loop-j decreases-loop-j = search (c) in
+    let counted : tie.After-count-t invariant-loop-j decreases-loop-j = search (c) in (
       omega arith,
-      counted_turn start.args.s (records_in start.args.list.now) turn.loop.j x.unpack.ensures
-          (number_at start.pre turn.loop.j x.unpack.ensures).1 turn.loop.inv.1 counted.count.ensures,
+      counted_turn start.args.s (records_in start.args.list.now) turn.loop-j.j x.unpack-x.ensures
+          (number_at start.requires turn.loop-j.j x.unpack-x.ensures).1 turn.loop-j.invariant.1 counted.count-t.ensures,
     )
 
-returns : tie.Need-returns invariant-loop decreases-loop
+returns : tie.Need-returns invariant-loop-j decreases-loop-j
 returns c =
-    let start : tie.Start invariant-loop decreases-loop = search (c) in
-    let turn : tie.At-loop invariant-loop decreases-loop = search (c) in
-    let n : turn.loop.j ≡ start.args.s.blocks = omega arith in
-    turn.loop.inv.1 ∙ ap (census_to start.args.s (records_in start.args.list.now)) n
+    let start : tie.Start invariant-loop-j decreases-loop-j = search (c) in
+    let turn : tie.At-loop-j invariant-loop-j decreases-loop-j = search (c) in
+    let n : turn.loop-j.j ≡ start.args.s.blocks = omega arith in
+    turn.loop-j.invariant.1 ∙ ap (census_to start.args.s (records_in start.args.list.now)) n
 
 pub take_spec : {M : Type 1} → statement M
 take_spec =
     tie.close
-    (tie.spec invariant-loop decreases-loop (λ c κs. search rules) loop-holds (λ c. search rules) element-copy-out-unpack (λ c κs. search rules)
-    (λ c. search rules) (λ c. search rules) element-copy-out-d count-requires (λ c. search rules)
+    (tie.spec invariant-loop-j decreases-loop-j (λ c κs. search rules) loop-holds (λ c. search rules) element_copy_out-unpack (λ c κs. search rules)
+    (λ c. search rules) (λ c. search rules) element_copy_out-d count-requires (λ c. search rules)
     (λ c. search rules) loop-again returns)

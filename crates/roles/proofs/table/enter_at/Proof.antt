@@ -11,18 +11,18 @@ use Rattle.roles.proofs.table.enter_at.Tie as tie
 narrow-requires : tie.Need-narrow-requires
 narrow-requires c κs =
     let start : tie.Start = search (c) in
-    let read : tie.After-wide = search (c) in
-    first_fits start.args.passes read.wide.ensures.1 start.pre.1 c.first_of.ensures
+    let read : tie.After-wide-found = search (c) in
+    first_fits start.args.passes read.wide-found.ensures.1 start.requires.1 c.first_of.ensures
 
 returns : tie.Need-returns
 returns c =
     let start : tie.Start = search (c) in
-    let read : tie.After-wide = search (c) in
-    let first : tie.After-first-of = search (c) in
+    let read : tie.After-wide-found = search (c) in
+    let first : tie.After-first_of = search (c) in
     let narrowed : tie.After-narrow = search (c) in
     let a = start.args in
     ap (set a.table.now a.i) (narrowed.narrow.ensures ∙ first.first_of.ensures
-    ∙ ap (λ (k : ℕ). or_none k (cond a.passes a.j none)) read.wide.ensures.0)
+    ∙ ap (λ (k : ℕ). or_none k (cond a.passes a.j none)) read.wide-found.ensures.0)
 
 pub enter_at_spec : {M : Type 1} → statement M
 enter_at_spec =

@@ -7,61 +7,61 @@ use Rattle.roles.proofs.Entries.{TableTo, table_none, table_turn, table_all}
 use Rattle.roles.proofs.table.fill.Statement.{statement}
 use Rattle.roles.proofs.table.fill.Tie as tie
 
-abbrev invariant-loop : tie.invariant-loop
-invariant-loop table₀ s list numbers blocks j₀ table j = (j ≤ blocks) × TableTo s (records_in list) table j
+abbrev invariant-loop-j : tie.invariant-loop-j
+invariant-loop-j table₀ s list numbers blocks j₀ table j = (j ≤ blocks) × TableTo s (records_in list) table j
 
-abbrev decreases-loop : tie.decreases-loop
-decreases-loop table₀ s list numbers blocks j₀ table j = blocks - j
+abbrev decreases-loop-j : tie.decreases-loop-j
+decreases-loop-j table₀ s list numbers blocks j₀ table j = blocks - j
 
-loop-holds : tie.Need-loop-init invariant-loop decreases-loop
+loop-holds : tie.Need-loop-j-init invariant-loop-j decreases-loop-j
 loop-holds c =
-    let start : tie.Start invariant-loop decreases-loop = search (c) in
-    let cleared : tie.After-clear invariant-loop decreases-loop = search (c) in
+    let start : tie.Start invariant-loop-j decreases-loop-j = search (c) in
+    let cleared : tie.After-clear invariant-loop-j decreases-loop-j = search (c) in
     let a = start.args in
-    (omega arith, table_none a.s (records_in a.list.now) a.table.now start.pre.0 cleared.clear.ensures)
+    (omega arith, table_none a.s (records_in a.list.now) a.table.now start.requires.0 cleared.clear.ensures)
 
-element-copy-out-unpack : tie.Need-element-copy-out-unpack invariant-loop decreases-loop
-element-copy-out-unpack c =
-    let start : tie.Start invariant-loop decreases-loop = search (c) in
-    let few = start.pre.1.recorded.few in
+element_copy_out-unpack : tie.Need-bounds-list-j invariant-loop-j decreases-loop-j
+element_copy_out-unpack c =
+    let start : tie.Start invariant-loop-j decreases-loop-j = search (c) in
+    let few = start.requires.1.recorded.few in
     omega arith
 
-element-copy-out-d : tie.Need-element-copy-out-d invariant-loop decreases-loop
-element-copy-out-d c =
-    let start : tie.Start invariant-loop decreases-loop = search (c) in
-    let turn : tie.At-loop invariant-loop decreases-loop = search (c) in
-    let x : tie.After-unpack invariant-loop decreases-loop = search (c) in
-    (number_at start.pre.1 turn.loop.j x.unpack.ensures).0
+element_copy_out-d : tie.Need-bounds-numbers-at invariant-loop-j decreases-loop-j
+element_copy_out-d c =
+    let start : tie.Start invariant-loop-j decreases-loop-j = search (c) in
+    let turn : tie.At-loop-j invariant-loop-j decreases-loop-j = search (c) in
+    let x : tie.After-unpack-x invariant-loop-j decreases-loop-j = search (c) in
+    (number_at start.requires.1 turn.loop-j.j x.unpack-x.ensures).0
 
-enter-requires : tie.Need-enter-requires invariant-loop decreases-loop
+enter-requires : tie.Need-enter-requires invariant-loop-j decreases-loop-j
 enter-requires c κs =
-    let start : tie.Start invariant-loop decreases-loop = search (c) in
-    let turn : tie.At-loop invariant-loop decreases-loop = search (c) in
-    let few = start.pre.1.recorded.few in
-    (turn.loop.inv.1.long, omega arith)
+    let start : tie.Start invariant-loop-j decreases-loop-j = search (c) in
+    let turn : tie.At-loop-j invariant-loop-j decreases-loop-j = search (c) in
+    let few = start.requires.1.recorded.few in
+    (turn.loop-j.invariant.1.long, omega arith)
 
-loop-again : tie.Need-loop-preserved invariant-loop decreases-loop
+loop-again : tie.Need-loop-j-preserved invariant-loop-j decreases-loop-j
 loop-again c =
-    let start : tie.Start invariant-loop decreases-loop = search (c) in
-    let turn : tie.At-loop invariant-loop decreases-loop = search (c) in
-    let x : tie.After-unpack invariant-loop decreases-loop = search (c) in
-    let entered : tie.After-enter invariant-loop decreases-loop = search (c) in
+    let start : tie.Start invariant-loop-j decreases-loop-j = search (c) in
+    let turn : tie.At-loop-j invariant-loop-j decreases-loop-j = search (c) in
+    let x : tie.After-unpack-x invariant-loop-j decreases-loop-j = search (c) in
+    let entered : tie.After-enter invariant-loop-j decreases-loop-j = search (c) in
     let a = start.args in (
       omega arith,
-      table_turn a.s (records_in a.list.now) _ turn.loop.j turn.loop.inv.1 x.unpack.ensures
-          (number_at start.pre.1 turn.loop.j x.unpack.ensures).1 entered.enter.ensures,
+      table_turn a.s (records_in a.list.now) _ turn.loop-j.j turn.loop-j.invariant.1 x.unpack-x.ensures
+          (number_at start.requires.1 turn.loop-j.j x.unpack-x.ensures).1 entered.enter.ensures,
     )
 
-returns : tie.Need-returns invariant-loop decreases-loop
+returns : tie.Need-returns invariant-loop-j decreases-loop-j
 returns c =
-    let start : tie.Start invariant-loop decreases-loop = search (c) in
-    let turn : tie.At-loop invariant-loop decreases-loop = search (c) in
+    let start : tie.Start invariant-loop-j decreases-loop-j = search (c) in
+    let turn : tie.At-loop-j invariant-loop-j decreases-loop-j = search (c) in
     let a = start.args in
-    table_all a.s (records_in a.list.now) _ turn.loop.j (omega arith) turn.loop.inv.1
+    table_all a.s (records_in a.list.now) _ turn.loop-j.j (omega arith) turn.loop-j.invariant.1
 
 pub fill_spec : {M : Type 1} → statement M
 fill_spec =
     tie.close
-    (tie.spec invariant-loop decreases-loop (λ c κs. search rules) loop-holds (λ c. search rules) element-copy-out-unpack (λ c κs. search rules)
-    (λ c. search rules) (λ c. search rules) element-copy-out-d enter-requires (λ c. search rules) (λ c. search rules) loop-again
+    (tie.spec invariant-loop-j decreases-loop-j (λ c κs. search rules) loop-holds (λ c. search rules) element_copy_out-unpack (λ c κs. search rules)
+    (λ c. search rules) (λ c. search rules) element_copy_out-d enter-requires (λ c. search rules) (λ c. search rules) loop-again
     (λ c. search rules) returns)
