@@ -12,20 +12,20 @@ use Rattle.blocks.proofs.record.goes_on.Tie as tie
 returns : tie.Need-returns
 unfolding goes_on
 returns c =
-    let number : tie.After-number-in = search (c) in
-    let same : tie.After-and = search (c) in
-    let table : tie.After-in-table = search (c) in
-    let entry : tie.After-and2 = search (c) in
-    let place : tie.After-in-place = search (c) in
-    let placed : tie.After-or = search (c) in
-    let block : tie.After-in-block = search (c) in
-    let inside : tie.After-and3 = search (c) in
+    let number : tie.After-number_in = search (c) in
+    let same : tie.After-and-same = search (c) in
+    let table : tie.After-in_table = search (c) in
+    let entry : tie.After-and-entry = search (c) in
+    let place : tie.After-in_place = search (c) in
+    let placed : tie.After-or-placed = search (c) in
+    let block : tie.After-in_block = search (c) in
+    let inside : tie.After-and = search (c) in
     let start : tie.Start = search (number) in
     let a = start.args in
-    let alike = same.and.ensures ∙ ap (λ (n : ℕ). eqb (kind_in a.t.now) a.x.kind && eqb n a.x.number) number.number_in.ensures in
-    and_is c.and4.ensures
-    (and_is inside.and3.ensures (and_is entry.and2.ensures table.in_table.ensures alike) block.in_block_lem.ensures)
-    (or_is {a = not (eqb a.x.kind copy_kind)} placed.or.ensures refl place.in_place.ensures)
+    let alike = same.and-same.ensures ∙ ap (λ (n : ℕ). eqb (kind_in a.t.now) a.x.kind && eqb n a.x.number) number.number_in.ensures in
+    and_is c.and-2.ensures
+    (and_is inside.and.ensures (and_is entry.and-entry.ensures table.in_table.ensures alike) block.in_block.ensures)
+    (or_is {a = not (eqb a.x.kind copy_kind)} placed.or-placed.ensures refl place.in_place.ensures)
 
 pub goes_on_spec : {M : Type 1} → statement M
 goes_on_spec =

@@ -10,11 +10,11 @@ use Rattle.blocks.proofs.record.in_block.Tie as tie
 returns : tie.Need-returns
 returns c =
     let start : tie.Start = search (c) in
-    let first : tie.After-first-of = search (c) in
-    let read : tie.After-address-in = search (c) in
+    let first : tie.After-first_of-first = search (c) in
+    let read : tie.After-address_in-a = search (c) in
     let pages = start.args.s.pages in
-    c.and.ensures ∙ ap (λ (n : ℕ). leb first.first_of.result n && ltb n (first.first_of.result + pages)) read.address-in.ensures
-    ∙ ap (λ (n : ℕ). leb n (address_in start.args.t.now) && ltb (address_in start.args.t.now) (n + pages)) first.first_of.ensures.0
+    c.and.ensures ∙ ap (λ (n : ℕ). leb first.first_of-first.result n && ltb n (first.first_of-first.result + pages)) read.address_in-a.ensures
+    ∙ ap (λ (n : ℕ). leb n (address_in start.args.t.now) && ltb (address_in start.args.t.now) (n + pages)) first.first_of-first.ensures.0
 
 pub in_block_spec : {M : Type 1} → statement M
 in_block_spec =

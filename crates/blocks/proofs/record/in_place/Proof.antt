@@ -9,9 +9,9 @@ use Rattle.blocks.proofs.record.in_place.Tie as tie
 returns : tie.Need-returns
 returns c =
     let start : tie.Start = search (c) in
-    let read : tie.After-address-in = search (c) in
+    let read : tie.After-address_in = search (c) in
     let a = start.args in
-    ap (λ (n : ℕ). eqb n (c.first_of.result + a.i)) read.address-in.ensures
+    ap (λ (n : ℕ). eqb n (c.first_of.result + a.i)) read.address_in.ensures
     ∙ ap (λ (n : ℕ). eqb (address_in a.t.now) (n + a.i)) c.first_of.ensures.0
 
 pub in_place_spec : {M : Type 1} → statement M

@@ -4,7 +4,7 @@ use borrow.Author.Rules.{rules}
 use Rattle.blocks.proofs.record.with_first.Statement.{statement}
 use Rattle.blocks.proofs.record.with_first.Tie as tie
 
-cast-t9 : tie.Need-overflow-cast-t9
+cast-t9 : tie.Need-overflow_cast-result
 cast-t9 c =
     let start : tie.Start = search (c) in
     omega (arith, div-le_self start.args.address start.args.s.pages)

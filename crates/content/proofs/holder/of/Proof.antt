@@ -22,7 +22,7 @@ returns c =
     let start : tie.Start = search (log) in
     let a = start.args in
     let k = records_in a.list.now in
-    holder_log a.s a.spare.now k a.a log.in_log_lem.ensures.0 c.before.newest.given.1 log.in_log_lem.ensures.1
+    holder_log a.s a.spare.now k a.a log.in_log.ensures.0 c.before.newest.given.1 log.in_log_lem.ensures.1
 
 returns-2 : tie.Need-returns-2
 returns-2 c =
@@ -32,7 +32,7 @@ returns-2 c =
     let start : tie.Start = search (log) in
     let a = start.args in
     let k = records_in a.list.now in
-    holder_data a.s a.spare.now k a.a log.in_log_lem.ensures.0 told.enum_told.given.1 (seats_data a.s k _ held.of.ensures)
+    holder_data a.s a.spare.now k a.a log.in_log.ensures.0 told.enum_told.given.1 (seats_data a.s k _ held.of.ensures)
     c.in-data.ensures
 
 pub of_spec : {M : Type 1} → statement M
