@@ -8,12 +8,12 @@ use Rattle.content.proofs.fetch.Tie as tie
 returns : tie.Need-returns
 unfolding content
 returns c =
-    let copied : tie.After-copy-from = search (c) in
-    let found : tie.After-of = search (copied) in
+    let copied : tie.After-copy_from = search (c) in
+    let found : tie.After-of-place = search (copied) in
     let start : tie.Start = search (found) in
     let bytes = start.args.bytes.now in
     let spare = start.args.spare.now in
-    copied.copy-from.ensures spare ∙ ap (bytes_at (image_of bytes spare)) (found.of.ensures.is bytes)
+    copied.copy_from.ensures spare ∙ ap (bytes_at (image_of bytes spare)) (found.of-place.ensures.is bytes)
 
 pub fetch_spec : {M : Type 1} → statement M
 fetch_spec =

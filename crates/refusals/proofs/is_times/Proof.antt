@@ -8,7 +8,7 @@ returns : tie.Need-returns
 returns c =
     let start : tie.Start = search (c) in
     let a = start.args in
-    c.and.ensures ∙ times_by a.size a.parts a.each start.pre
+    c.and.ensures ∙ times_by a.size a.parts a.each start.requires
 
 pub is_times_spec : {M : Type 1} → statement M
 is_times_spec = tie.close (tie.spec (λ c. search rules) (λ c. search rules) (λ c κs. search rules) returns)

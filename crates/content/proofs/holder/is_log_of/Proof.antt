@@ -6,7 +6,7 @@ use Rattle.content.proofs.holder.is_log_of.Tie as tie
 
 returns : tie.Need-returns
 returns c =
-    let live : tie.After-is-live = search (c) in
+    let live : tie.After-is_live = search (c) in
     and_is c.and.ensures live.is_live.ensures refl
 
 pub is_log_of_spec : {M : Type 1} → statement M

@@ -3,17 +3,17 @@ use Rattle.plans.proofs.Choosing.{append_plan}
 use Rattle.plans.proofs.plan.append.Statement.{statement}
 use Rattle.plans.proofs.plan.append.Tie as tie
 
-and-requires : tie.Need-and-requires
+and-requires : tie.Need-and-ordered-requires
 and-requires c κs = search rules
 
 returns : tie.Need-returns
 returns c =
-    let former : tie.After-block-if = search (c) in
-    let whole : tie.After-and2 = search (former) in
-    let next : tie.After-and = search (whole) in
+    let former : tie.After-block_if = search (c) in
+    let whole : tie.After-and-completes = search (former) in
+    let next : tie.After-and-ordered = search (whole) in
     let start : tie.Start = search (next) in
     let a = start.args in
-    append_plan a.s a.x a.v a.d a.a next.and.ensures whole.and2.ensures former.block-if.ensures c.unmerged.ensures
+    append_plan a.s a.x a.v a.d a.a next.and-ordered.ensures whole.and-completes.ensures former.block_if.ensures c.unmerged.ensures
 
 pub append_spec : {M : Type 1} → statement M
 append_spec =

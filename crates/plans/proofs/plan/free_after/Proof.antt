@@ -10,37 +10,37 @@ use Rattle.plans.specs.Plans.{free_after}
 use Rattle.plans.proofs.plan.free_after.Statement.{statement}
 use Rattle.plans.proofs.plan.free_after.Tie as tie
 
-abbrev invariant-loop : tie.invariant-loop
-invariant-loop list f v d blocks first₀ j₀ first j = (j ≤ blocks) × (first ≡ first_below j (free_then (records_in list) f v d))
+abbrev invariant-loop-j : tie.invariant-loop-j
+invariant-loop-j list f v d blocks first₀ j₀ first j = (j ≤ blocks) × (first ≡ first_below j (free_then (records_in list) f v d))
 
-abbrev decreases-loop : tie.decreases-loop
-decreases-loop list f v d blocks first₀ j₀ first j = blocks - j
+abbrev decreases-loop-j : tie.decreases-loop-j
+decreases-loop-j list f v d blocks first₀ j₀ first j = blocks - j
 
-free-then-requires : tie.Need-free-then-requires invariant-loop decreases-loop
-free-then-requires c κs = search rules
+free_then-requires : tie.Need-free_then-requires invariant-loop-j decreases-loop-j
+free_then-requires c κs = search rules
 
-loop-again : tie.Need-loop-preserved invariant-loop decreases-loop
+loop-again : tie.Need-loop-j-preserved invariant-loop-j decreases-loop-j
 loop-again c =
-    let free : tie.After-free-then invariant-loop decreases-loop = search (c) in
-    let turn : tie.At-loop invariant-loop decreases-loop = search (free) in
-    let start : tie.Start invariant-loop decreases-loop = search (turn) in
+    let free : tie.After-free_then invariant-loop-j decreases-loop-j = search (c) in
+    let turn : tie.At-loop-j invariant-loop-j decreases-loop-j = search (free) in
+    let start : tie.Start invariant-loop-j decreases-loop-j = search (turn) in
     let a = start.args in (
       omega arith,
-      first_turn (free_then (records_in a.list.now) a.f a.v a.d) turn.loop.j turn.loop.inv.1 free.free-then.ensures
-          c.first_of.ensures,
+      first_turn (free_then (records_in a.list.now) a.f a.v a.d) turn.loop-j.j turn.loop-j.invariant.1 free.free_then.ensures
+          c.first_of-first.ensures,
     )
 
-returns : tie.Need-returns invariant-loop decreases-loop
+returns : tie.Need-returns invariant-loop-j decreases-loop-j
 unfolding free_after
 returns c =
-    let turn : tie.At-loop invariant-loop decreases-loop = search (c) in
-    let start : tie.Start invariant-loop decreases-loop = search (turn) in
+    let turn : tie.At-loop-j invariant-loop-j decreases-loop-j = search (c) in
+    let start : tie.Start invariant-loop-j decreases-loop-j = search (turn) in
     let a = start.args in
-    let z : turn.loop.j ≡ a.s.blocks = omega arith in
-    turn.loop.inv.1 ∙ ap (λ (k : ℕ). first_below k (free_then (records_in a.list.now) a.f a.v a.d)) z
+    let z : turn.loop-j.j ≡ a.s.blocks = omega arith in
+    turn.loop-j.invariant.1 ∙ ap (λ (k : ℕ). first_below k (free_then (records_in a.list.now) a.f a.v a.d)) z
 
 pub free_after_spec : {M : Type 1} → statement M
 free_after_spec =
     tie.close
-    (tie.spec invariant-loop decreases-loop (λ c. (omega arith, first_below-zero _)) free-then-requires (λ c κs. search rules)
+    (tie.spec invariant-loop-j decreases-loop-j (λ c. (omega arith, first_below-zero _)) free_then-requires (λ c κs. search rules)
     (λ c. search rules) (λ c. search rules) loop-again returns)

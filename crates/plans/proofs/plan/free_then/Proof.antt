@@ -13,14 +13,14 @@ or-requires c κs = search rules
 
 returns : tie.Need-returns
 returns c =
-    let some : tie.After-or2 = search (c) in
-    let free : tie.After-is-free = search (some) in
+    let some : tie.After-or-2 = search (c) in
+    let free : tie.After-is_free = search (some) in
     let erased : tie.After-or = search (free) in
-    let x : tie.After-unpack = search (erased) in
+    let x : tie.After-unpack-x = search (erased) in
     let start : tie.Start = search (x) in
     let a = start.args in
     and_is {a = not (eqb a.j a.f)} c.and.ensures refl
-    (or_is some.or2.ensures erased.or.ensures (free.is_free.ensures ∙ ap (λ (y : Block). is_free y.state) x.unpack.ensures))
+    (or_is some.or-2.ensures erased.or.ensures (free.is_free.ensures ∙ ap (λ (y : Block). is_free y.state) x.unpack-x.ensures))
 
 pub free_then_spec : {M : Type 1} → statement M
 free_then_spec =

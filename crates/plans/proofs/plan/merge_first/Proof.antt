@@ -9,7 +9,7 @@ returns c =
     let anew : tie.After-by = search (c) in
     let start : tie.Start = search (anew) in
     let a = start.args in
-    merge_plan_lem a.s (records_in a.list.now) start.pre.1 a.l start.pre.2 anew.by.ensures c.free-after.ensures
+    merge_plan_lem a.s (records_in a.list.now) start.requires.1 a.l start.requires.2 anew.by.ensures c.free_after.ensures
 
 pub merge_first_spec : {M : Type 1} → statement M
 merge_first_spec = tie.close (tie.spec (λ c κs. search rules) (λ c κs. search rules) returns)

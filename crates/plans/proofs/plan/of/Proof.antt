@@ -7,47 +7,47 @@ use Rattle.plans.proofs.plan.of.Tie as tie
 append-requires : tie.Need-append-requires
 append-requires c κs = search rules
 
-returns : tie.Need-returns
+returns : tie.Need-returns-then-x-pages
 returns c =
-    let room : tie.Then2 = search (c) in
-    let x : tie.After-record-at = search (room) in
-    let some : tie.Then1 = search (x) in
-    let here : tie.After-of = search (some) in
+    let room : tie.Then-x-pages = search (c) in
+    let x : tie.After-record_at-x = search (room) in
+    let some : tie.Then-q-ne-NONE = search (x) in
+    let here : tie.After-of-q = search (some) in
     let start : tie.Start = search (here) in
     let a = start.args in
-    of_room a.s (records_in a.list.now) a.a here.of.ensures some.if1.taken x.record-at.ensures room.if2.taken
+    of_room a.s (records_in a.list.now) a.a here.of-q.ensures some.if-q-ne-NONE.true x.record_at-x.ensures room.if-x-pages.true
     c.append.ensures
 
-returns-2 : tie.Need-returns-2
+returns-2 : tie.Need-returns-then-q-ne-NONE
 returns-2 c =
-    let full : tie.Else2 = search (c) in
-    let x : tie.After-record-at = search (full) in
-    let some : tie.Then1 = search (x) in
-    let here : tie.After-of = search (some) in
+    let full : tie.Else-x-pages = search (c) in
+    let x : tie.After-record_at-x = search (full) in
+    let some : tie.Then-q-ne-NONE = search (x) in
+    let here : tie.After-of-q = search (some) in
     let start : tie.Start = search (here) in
     let a = start.args in
-    of_full a.s (records_in a.list.now) a.a here.of.ensures some.if1.taken x.record-at.ensures full.if2.left
-    c.merge-first.ensures
+    of_full a.s (records_in a.list.now) a.a here.of-q.ensures some.if-q-ne-NONE.true x.record_at-x.ensures full.if-x-pages.false
+    c.merge_first.ensures
 
-returns-3 : tie.Need-returns-3
+returns-3 : tie.Need-returns-then-t-s
 returns-3 c =
-    let few : tie.Then3 = search (c) in
-    let none : tie.Else1 = search (few) in
-    let here : tie.After-of = search (none) in
+    let few : tie.Then-t-s = search (c) in
+    let none : tie.Else-q-ne-NONE = search (few) in
+    let here : tie.After-of-q = search (none) in
     let start : tie.Start = search (here) in
     let a = start.args in
-    of-fresh a.s (records_in a.list.now) a.a here.of.ensures start.pre.2 none.if1.left few.if3.taken c.unmerged.ensures
+    of-fresh a.s (records_in a.list.now) a.a here.of-q.ensures start.requires.2 none.if-q-ne-NONE.false few.if-t-s.true c.unmerged.ensures
 
-returns-4 : tie.Need-returns-4
+returns-4 : tie.Need-returns
 returns-4 c =
-    let victim : tie.After-oldest = search (c) in
-    let most : tie.Else3 = search (victim) in
-    let none : tie.Else1 = search (most) in
-    let here : tie.After-of = search (none) in
+    let victim : tie.After-oldest-m = search (c) in
+    let most : tie.Else-t-s = search (victim) in
+    let none : tie.Else-q-ne-NONE = search (most) in
+    let here : tie.After-of-q = search (none) in
     let start : tie.Start = search (here) in
     let a = start.args in
-    of-victim a.s (records_in a.list.now) a.a here.of.ensures start.pre.2 none.if1.left most.if3.left
-    victim.oldest.ensures c.merge-first2.ensures
+    of-victim a.s (records_in a.list.now) a.a here.of-q.ensures start.requires.2 none.if-q-ne-NONE.false most.if-t-s.false
+    victim.oldest-m.ensures c.merge_first-2.ensures
 
 pub of_spec : {M : Type 1} → statement M
 of_spec =

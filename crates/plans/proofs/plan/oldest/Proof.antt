@@ -6,9 +6,9 @@ use Rattle.plans.proofs.plan.oldest.Tie as tie
 
 returns : tie.Need-returns
 returns c =
-    let x : tie.After-record-at = search (c) in
+    let x : tie.After-record_at-x = search (c) in
     let start : tie.Start = search (x) in
-    victim_by start.args.s (records_in start.args.list.now) start.pre.1 x.record-at.ensures
+    victim_by start.args.s (records_in start.args.list.now) start.requires.1 x.record_at-x.ensures
 
 pub oldest_spec : {M : Type 1} → statement M
 oldest_spec = tie.close (tie.spec (λ c κs. search rules) (λ c. search rules) returns)

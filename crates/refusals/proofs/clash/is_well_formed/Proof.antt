@@ -11,14 +11,14 @@ use Rattle.refusals.proofs.clash.is_well_formed.Tie as tie
 returns : tie.Need-returns
 unfolding well_formed W7 live_logs census_to
 returns c =
-    let both : tie.After-and2 = search (c) in
-    let logs : tie.After-logs-apart = search (both) in
-    let first : tie.After-and = search (logs) in
-    let numbers : tie.After-numbers-apart = search (first) in
+    let both : tie.After-and-both = search (c) in
+    let logs : tie.After-logs_apart = search (both) in
+    let first : tie.After-and-first = search (logs) in
+    let numbers : tie.After-numbers_apart = search (first) in
     let start : tie.Start = search (numbers) in
-    let sound = ap (λ (u : Census). u.sound) start.pre.1 in
-    let pairs = and_is both.and2.ensures (and_is first.and.ensures sound numbers.Numbers-apart.ensures) logs.logs-apart.ensures in
-    and_is c.and3.ensures pairs (ap (λ (u : Census). leb u.live start.args.s.logs) start.pre.1)
+    let sound = ap (λ (u : Census). u.sound) start.requires.1 in
+    let pairs = and_is both.and-both.ensures (and_is first.and-first.ensures sound numbers.numbers_apart.ensures) logs.logs_apart.ensures in
+    and_is c.and.ensures pairs (ap (λ (u : Census). leb u.live start.args.s.logs) start.requires.1)
 
 pub is_well_formed_spec : {M : Type 1} → statement M
 is_well_formed_spec =
