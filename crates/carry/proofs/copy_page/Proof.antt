@@ -7,24 +7,24 @@ use Rattle.carry.proofs.Copying.{page-ran}
 use Rattle.carry.proofs.copy_page.Statement.{statement}
 use Rattle.carry.proofs.copy_page.Tie as tie
 
-mul-a : tie.Need-overflow-mul-a
-mul-a c = let start : tie.Start = search (c) in omega (arith, mul-le-mul start.pre.2.logical_small start.pre.0.limits.pages_high)
+mul-a : tie.Need-overflow_mul-a
+mul-a c = let start : tie.Start = search (c) in omega (arith, mul-le-mul start.requires.2.logical_small start.requires.0.limits.pages_high)
 
-add_a : tie.Need-overflow-add-a
-add_a c = let start : tie.Start = search (c) in omega (arith, mul-le-mul start.pre.2.logical_small start.pre.0.limits.pages_high)
+add_a : tie.Need-overflow_add-a
+add_a c = let start : tie.Start = search (c) in omega (arith, mul-le-mul start.requires.2.logical_small start.requires.0.limits.pages_high)
 
-same_length : tie.Need-same-length
+same_length : tie.Need-shape_of-bytes
 same_length c = search rules
 
 returns : tie.Need-returns
 returns c =
-    let done : tie.After-program-entry = search (c) in
-    let at : tie.After-page-no = search (done) in
-    let filled : tie.After-fill-page = search (at) in
+    let done : tie.After-program_entry = search (c) in
+    let at : tie.After-page_no-at = search (done) in
+    let filled : tie.After-fill_page = search (at) in
     let start : tie.Start = search (filled) in
     let a = start.args in
-    page-ran a.s (image_of a.bytes.now a.spare.now) (records_in a.list.now) a.r a.block.now a.o at.page-no.ensures.0
-    filled.fill-page.ensures done.program-entry.ensures
+    page-ran a.s (image_of a.bytes.now a.spare.now) (records_in a.list.now) a.r a.block.now a.o at.page_no-at.ensures.0
+    filled.fill_page.ensures done.program_entry.ensures
 
 pub copy_page_spec : {M : Type 1} → statement M
 copy_page_spec =

@@ -11,40 +11,40 @@ use Rattle.reading.proofs.Fetching.{read_opened, read_refused, read_done}
 use Rattle.reading.proofs.read.Statement.{statement}
 use Rattle.reading.proofs.read.Tie as tie
 
-refusal_is : (t : tie.After-of) →
+refusal_is : (t : tie.After-of-v) →
     let start : tie.Start = search (t) in
     let a = start.args in
     let im = image_of a.bytes.now a.spare.now in
-    t.of.result.refusal ≡ read_refusal a.s im (blocks_of a.s im) (length a.page.now) a.a
+    t.of-v.result.refusal ≡ read_refusal a.s im (blocks_of a.s im) (length a.page.now) a.a
 refusal_is t =
-    let ranged : tie.After-in-range = search (t) in
+    let ranged : tie.After-in_range-ranged = search (t) in
     let start : tie.Start = search (ranged) in
     let a = start.args in
-    read_opened a.s (image_of a.bytes.now a.spare.now) (length a.page.now) a.a t.of.ensures.refusal_is ranged.in_range.ensures
+    read_opened a.s (image_of a.bytes.now a.spare.now) (length a.page.now) a.a t.of-v.ensures.refusal_is ranged.in_range-ranged.ensures
 
-returns : tie.Need-returns
+returns : tie.Need-returns-then-v-ne0
 returns c =
-    let opened : tie.After-of = search (c) in
+    let opened : tie.After-of-v = search (c) in
     let start : tie.Start = search (opened) in
     let a = start.args in
-    read_refused a.s (image_of a.bytes.now a.spare.now) a.page.now a.a (refusal_is opened) c.if1.true
+    read_refused a.s (image_of a.bytes.now a.spare.now) a.page.now a.a (refusal_is opened) c.if-v-ne0.true
 
 fetch-requires : tie.Need-fetch-requires
 fetch-requires c κs =
-    let passed : tie.Else1 = search (c) in
-    let opened : tie.After-of = search (passed) in
-    let v = opened_surveyed opened.of.ensures passed.if1.left in
+    let passed : tie.Else-v-ne0 = search (c) in
+    let opened : tie.After-of-v = search (passed) in
+    let v = opened_surveyed opened.of-v.ensures passed.if-v-ne0.false in
     (v.within, eqb-true _ _ v.lengths, v.numbers_are)
 
-returns-2 : tie.Need-returns-2
+returns-2 : tie.Need-returns
 returns-2 c =
     let fetched : tie.After-fetch = search (c) in
-    let passed : tie.Else1 = search (fetched) in
-    let opened : tie.After-of = search (passed) in
+    let passed : tie.Else-v-ne0 = search (fetched) in
+    let opened : tie.After-of-v = search (passed) in
     let start : tie.Start = search (opened) in
     let a = start.args in
-    read_done a.s (image_of a.bytes.now a.spare.now) a.page.now a.a (sym (refusal_is opened) ∙ passed.if1.left)
-    (opened_surveyed opened.of.ensures passed.if1.left).records fetched.fetch.ensures
+    read_done a.s (image_of a.bytes.now a.spare.now) a.page.now a.a (sym (refusal_is opened) ∙ passed.if-v-ne0.false)
+    (opened_surveyed opened.of-v.ensures passed.if-v-ne0.false).records fetched.fetch.ensures
 
 pub read_spec : {M : Type 1} → statement M
 read_spec = tie.close (tie.spec (λ c κs. search rules) (λ c κs. search rules) returns fetch-requires (λ c. search rules) returns-2)

@@ -15,61 +15,61 @@ use Rattle.sweep.proofs.Sweeping.{erases_to, erases_none, erases_turn}
 use Rattle.sweep.proofs.erase_obsolete.Statement.{statement}
 use Rattle.sweep.proofs.erase_obsolete.Tie as tie
 
-abbrev invariant-loop : tie.invariant-loop
-invariant-loop bytes₀ spare₀ s list numbers blocks u₀ j₀ bytes spare u j = (j ≤ blocks) × (length bytes ≡ length bytes₀) × (length spare ≡ length spare₀)
+abbrev invariant-loop-j : tie.invariant-loop-j
+invariant-loop-j bytes₀ spare₀ s list numbers blocks u₀ j₀ bytes spare u j = (j ≤ blocks) × (length bytes ≡ length bytes₀) × (length spare ≡ length spare₀)
     × Ran s (erases_to (is_obsolete s (records_in list)) j) (progress (image_of bytes₀ spare₀) u₀) bytes spare u
 
-abbrev decreases-loop : tie.decreases-loop
-decreases-loop bytes₀ spare₀ s list numbers blocks u₀ j₀ bytes spare u j = blocks - j
+abbrev decreases-loop-j : tie.decreases-loop-j
+decreases-loop-j bytes₀ spare₀ s list numbers blocks u₀ j₀ bytes spare u j = blocks - j
 
-loop-holds : tie.Need-loop-init invariant-loop decreases-loop
+loop-holds : tie.Need-loop-j-init invariant-loop-j decreases-loop-j
 loop-holds c =
-    let start : tie.Start invariant-loop decreases-loop = search (c) in
+    let start : tie.Start invariant-loop-j decreases-loop-j = search (c) in
     let a = start.args in
-    (omega arith, refl, refl, erases_none a.s (is_obsolete a.s (records_in a.list.now)) start.pre.2)
+    (omega arith, refl, refl, erases_none a.s (is_obsolete a.s (records_in a.list.now)) start.requires.2)
 
-element-copy-out-d : tie.Need-element-copy-out-d invariant-loop decreases-loop
-element-copy-out-d c =
-    let start : tie.Start invariant-loop decreases-loop = search (c) in
-    let turn : tie.At-loop invariant-loop decreases-loop = search (c) in
-    let x : tie.After-unpack invariant-loop decreases-loop = search (c) in
-    (number_at start.pre.1 turn.loop.j x.unpack.ensures).0
+element_copy_out-d : tie.Need-bounds-numbers-at invariant-loop-j decreases-loop-j
+element_copy_out-d c =
+    let start : tie.Start invariant-loop-j decreases-loop-j = search (c) in
+    let turn : tie.At-loop-j invariant-loop-j decreases-loop-j = search (c) in
+    let x : tie.After-unpack-x invariant-loop-j decreases-loop-j = search (c) in
+    (number_at start.requires.1 turn.loop-j.j x.unpack-x.ensures).0
 
-add-j : tie.Need-overflow-add-j invariant-loop decreases-loop
+add-j : tie.Need-overflow_add-j invariant-loop-j decreases-loop-j
 add-j c =
-    let turn : tie.In-loop invariant-loop decreases-loop = search (c) in
+    let turn : tie.In-loop-j invariant-loop-j decreases-loop-j = search (c) in
     omega arith
 
-loop-again : tie.Need-loop-preserved invariant-loop decreases-loop
+loop-again : tie.Need-loop-j-preserved invariant-loop-j decreases-loop-j
 loop-again c =
-    let erased : tie.After-erase-if invariant-loop decreases-loop = search (c) in
-    let test : tie.After-is-obsolete invariant-loop decreases-loop = search (erased) in
-    let x : tie.After-unpack invariant-loop decreases-loop = search (test) in
-    let turn : tie.At-loop invariant-loop decreases-loop = search (x) in
-    let start : tie.Start invariant-loop decreases-loop = search (turn) in
+    let erased : tie.After-erase_if-u invariant-loop-j decreases-loop-j = search (c) in
+    let test : tie.After-is_obsolete invariant-loop-j decreases-loop-j = search (erased) in
+    let x : tie.After-unpack-x invariant-loop-j decreases-loop-j = search (test) in
+    let turn : tie.At-loop-j invariant-loop-j decreases-loop-j = search (x) in
+    let start : tie.Start invariant-loop-j decreases-loop-j = search (turn) in
     let a = start.args in
     let k = records_in a.list.now in
-    let j = turn.loop.j in (
+    let j = turn.loop-j.j in (
       omega arith,
       search rules,
       search rules,
       erases_turn a.s (is_obsolete a.s k) j _
-          (is_obsolete_by_lem a.s k j x.unpack.ensures (number_at start.pre.1 j x.unpack.ensures).1 test.is-obsolete.ensures)
-          turn.loop.inv.3 erased.erase-if.ensures,
+          (is_obsolete_by_lem a.s k j x.unpack-x.ensures (number_at start.requires.1 j x.unpack-x.ensures).1 test.is_obsolete.ensures)
+          turn.loop-j.invariant.3 erased.erase_if-u.ensures,
     )
 
-returns : tie.Need-returns invariant-loop decreases-loop
+returns : tie.Need-returns invariant-loop-j decreases-loop-j
 unfolding power_up_list
 returns c =
-    let turn : tie.At-loop invariant-loop decreases-loop = search (c) in
-    let start : tie.Start invariant-loop decreases-loop = search (turn) in
+    let turn : tie.At-loop-j invariant-loop-j decreases-loop-j = search (c) in
+    let start : tie.Start invariant-loop-j decreases-loop-j = search (turn) in
     let a = start.args in
-    let n : turn.loop.j ≡ a.s.blocks = omega arith in
-    ran_same (ap (erases_to (is_obsolete a.s (records_in a.list.now))) n) turn.loop.inv.3
+    let n : turn.loop-j.j ≡ a.s.blocks = omega arith in
+    ran_same (ap (erases_to (is_obsolete a.s (records_in a.list.now))) n) turn.loop-j.invariant.3
 
 pub erase_obsolete_spec : {M : Type 1} → statement M
 erase_obsolete_spec =
     tie.close
-    (tie.spec invariant-loop decreases-loop loop-holds (λ c. search rules) (λ c. search rules) (λ c κs. search rules) (λ c. search rules) (λ c. search rules)
-    element-copy-out-d (λ c κs. search rules) (λ c κs. search rules) add-j (λ c. search rules) loop-again (λ c. search rules)
+    (tie.spec invariant-loop-j decreases-loop-j loop-holds (λ c. search rules) (λ c. search rules) (λ c κs. search rules) (λ c. search rules) (λ c. search rules)
+    element_copy_out-d (λ c κs. search rules) (λ c κs. search rules) add-j (λ c. search rules) loop-again (λ c. search rules)
     (λ c. search rules) returns)

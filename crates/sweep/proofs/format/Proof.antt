@@ -19,35 +19,35 @@ use Rattle.sweep.proofs.format.Statement.{statement}
 use Rattle.sweep.proofs.format.Tie as tie
 
 -- 1 does not apply
-inside : (t : tie.Else1) →
+inside : (t : tie.Else-not-within) →
     let start : tie.Start = search (t) in
     let a = start.args in
     outside_limits a.s (image_of a.bytes.now a.spare.now) ≡ false
 inside t =
     let asked : tie.After-within = search (t) in
-    sym (ap not asked.within.ensures) ∙ t.if1.false
+    sym (ap not asked.within.ensures) ∙ t.if-not-within.false
 
-within : (t : tie.Else1) →
+within : (t : tie.Else-not-within) →
     let start : tie.Start = search (t) in
     let a = start.args in
     Within a.s (length a.bytes.now) (length a.spare.now)
 within t =
     let asked : tie.After-within = search (t) in
-    within_limits_within _ _ _ (true_is _ (sym asked.within.ensures ∙ not-false _ t.if1.false))
+    within_limits_within _ _ _ (true_is _ (sym asked.within.ensures ∙ not-false _ t.if-not-within.false))
 
 -- whether 4 applies
-few : (t : tie.After-short-of) →
+few : (t : tie.After-short_of) →
     let start : tie.Start = search (t) in
     let a = start.args in
-    t.short-of.result ≡ too_few_good a.s (blocks_of a.s (image_of a.bytes.now a.spare.now))
+    t.short_of.result ≡ too_few_good a.s (blocks_of a.s (image_of a.bytes.now a.spare.now))
 few t =
     let start : tie.Start = search (t) in
-    let read : tie.After-scan-use = search (t) in
+    let read : tie.After-scan_use = search (t) in
     let counted : tie.After-good2 = search (t) in
-    few_by start.args.s _ counted.good2.ensures t.short-of.ensures ∙ ap (too_few_good start.args.s) read.scan-use.ensures.records
+    few_by start.args.s _ counted.good2.ensures t.short_of.ensures ∙ ap (too_few_good start.args.s) read.scan_use.ensures.records
     ∙ few_same start.args.s (image_of start.args.bytes.now start.args.spare.now)
 
-returns : tie.Need-returns
+returns : tie.Need-returns-then-not-within
 unfolding format_reply
 returns c =
     let start : tie.Start = search (c) in
@@ -56,54 +56,54 @@ returns c =
     let im = image_of a.bytes.now a.spare.now in
     let b = blocks_of a.s im in
     replied_refused a.s a.bytes.now a.spare.now a.cut (format_list a.s b)
-    (format_outside a.s im b (sym (ap not asked.within.ensures) ∙ c.if1.true)) (λ z. omega arith)
+    (format_outside a.s im b (sym (ap not asked.within.ensures) ∙ c.if-not-within.true)) (λ z. omega arith)
 
-scan-use-requires : tie.Need-scan-use-requires
-scan-use-requires c κs =
-    let one : tie.Else1 = search (c) in
+scan_use-requires : tie.Need-scan_use-requires
+scan_use-requires c κs =
+    let one : tie.Else-not-within = search (c) in
     (within one, search rules)
 
 good-requires : tie.Need-good-requires
 good-requires c κs =
-    let one : tie.Else1 = search (c) in
+    let one : tie.Else-not-within = search (c) in
     (within one).limits.blocks_high
 
-returns-2 : tie.Need-returns-2
+returns-2 : tie.Need-returns-then-short_of
 unfolding format_reply
 returns-2 c =
-    let one : tie.Else1 = search (c) in
-    let counted : tie.After-short-of = search (c) in
+    let one : tie.Else-not-within = search (c) in
+    let counted : tie.After-short_of = search (c) in
     let start : tie.Start = search (c) in
     let a = start.args in
     let im = image_of a.bytes.now a.spare.now in
     let b = blocks_of a.s im in
     replied_refused a.s a.bytes.now a.spare.now a.cut (format_list a.s b)
-    (format_few a.s im b (inside one) (sym (few counted) ∙ c.if2.true)) (λ z. omega arith)
+    (format_few a.s im b (inside one) (sym (few counted) ∙ c.if-short_of.true)) (λ z. omega arith)
 
-erase-used-requires : tie.Need-erase-used-requires
-erase-used-requires c κs =
-    let one : tie.Else1 = search (c) in
+erase_used-requires : tie.Need-erase_used-requires
+erase_used-requires c κs =
+    let one : tie.Else-not-within = search (c) in
     (within one, c.new.ensures.1)
 
-returns-3 : tie.Need-returns-3
+returns-3 : tie.Need-returns
 unfolding format_reply
 returns-3 c =
-    let erased : tie.After-erase-used = search (c) in
+    let erased : tie.After-erase_used = search (c) in
     let new : tie.After-new = search (c) in
-    let two : tie.Else2 = search (c) in
-    let counted : tie.After-short-of = search (two) in
-    let read : tie.After-scan-use = search (two) in
-    let one : tie.Else1 = search (two) in
+    let two : tie.Else-short_of = search (c) in
+    let counted : tie.After-short_of = search (two) in
+    let read : tie.After-scan_use = search (two) in
+    let one : tie.Else-not-within = search (two) in
     let start : tie.Start = search (two) in
     let a = start.args in
     let im = image_of a.bytes.now a.spare.now in
     let b = blocks_of a.s im in
     replied_done a.s a.bytes.now a.spare.now a.cut (format_list a.s b)
-    (format_none a.s im b (inside one) (sym (few counted) ∙ two.if2.left)) new.new.ensures.0
-    (ran_same (ap (format_list a.s) read.scan-use.ensures.records ∙ list_same a.s im) erased.erase-used.ensures) c.answer.ensures
+    (format_none a.s im b (inside one) (sym (few counted) ∙ two.if-short_of.false)) new.new.ensures.0
+    (ran_same (ap (format_list a.s) read.scan_use.ensures.records ∙ list_same a.s im) erased.erase_used.ensures) c.answer.ensures
 
 pub format_spec : {M : Type 1} → statement M
 format_spec =
     tie.close
-    (tie.spec (λ c κs. search rules) returns scan-use-requires good-requires (λ c κs. search rules) (λ c. search rules) (λ c. search rules) returns-2
-    (λ c κs. search rules) erase-used-requires (λ c κs. search rules) (λ c. search rules) (λ c. search rules) returns-3)
+    (tie.spec (λ c κs. search rules) returns scan_use-requires good-requires (λ c κs. search rules) (λ c. search rules) (λ c. search rules) returns-2
+    (λ c κs. search rules) erase_used-requires (λ c κs. search rules) (λ c. search rules) (λ c. search rules) returns-3)

@@ -21,73 +21,73 @@ use Rattle.sweep.proofs.Sweeping.{power_up_refused, power_up_done}
 use Rattle.sweep.proofs.power_up.Statement.{statement}
 use Rattle.sweep.proofs.power_up.Tie as tie
 
-abbrev start : tie.After-of → tie.Start
+abbrev start : tie.After-of-v → tie.Start
 start t = search (t)
 
-refusal_is : (t : tie.After-of) →
+refusal_is : (t : tie.After-of-v) →
     let a = (start t).args in
     let im = image_of a.bytes.now a.spare.now in
-    t.of.result.refusal ≡ power_up_refusal a.s im (blocks_of a.s im) (length a.table.now)
+    t.of-v.result.refusal ≡ power_up_refusal a.s im (blocks_of a.s im) (length a.table.now)
 refusal_is t =
-    let sized : tie.After-table-sized = search (t) in
+    let sized : tie.After-table_sized-sized = search (t) in
     let a = (start t).args in
     let im = image_of a.bytes.now a.spare.now in
-    t.of.ensures.refusal_is ∙ ap (λ (b : Bool). open_refusal a.s im b true) sized.table-sized.ensures
+    t.of-v.ensures.refusal_is ∙ ap (λ (b : Bool). open_refusal a.s im b true) sized.table_sized-sized.ensures
     ∙ sym (power_up_order a.s im (length a.table.now))
 
-returns : tie.Need-returns
+returns : tie.Need-returns-then-v-ne0
 returns c =
-    let opened : tie.After-of = search (c) in
+    let opened : tie.After-of-v = search (c) in
     let a = (start opened).args in
-    power_up_refused a.s a.bytes.now a.spare.now a.table.now a.cut (refusal_is opened) c.if1.true
+    power_up_refused a.s a.bytes.now a.spare.now a.table.now a.cut (refusal_is opened) c.if-v-ne0.true
 
-erase-obsolete-requires : tie.Need-erase-obsolete-requires
-erase-obsolete-requires c κs =
-    let passed : tie.Else1 = search (c) in
-    let opened : tie.After-of = search (passed) in
-    let v = opened_surveyed opened.of.ensures passed.if1.left in
+erase_obsolete-requires : tie.Need-erase_obsolete-t-requires
+erase_obsolete-requires c κs =
+    let passed : tie.Else-v-ne0 = search (c) in
+    let opened : tie.After-of-v = search (passed) in
+    let v = opened_surveyed opened.of-v.ensures passed.if-v-ne0.false in
     (v.within, v.numbers_are, c.new.ensures.1)
 
 -- the steps are over, cut or not
-swept : (t : tie.After-erase-obsolete) {r : Answer} {table : List ℕ} →
-    let opened : tie.After-of = search (t) in
+swept : (t : tie.After-erase_obsolete-t) {r : Answer} {table : List ℕ} →
+    let opened : tie.After-of-v = search (t) in
     let a = (start opened).args in
-    r ≡ finished t.erase-obsolete.result
-    → table ≡ cond t.erase-obsolete.result.short a.table.now (table_of a.s (records_in opened.of.last.1.1.0) a.s.logical)
-    → PowerUpDone a.s (image_of a.bytes.now a.spare.now) a.table.now a.cut r t.erase-obsolete.new.0
-    t.erase-obsolete.new.1.0 table
+    r ≡ finished t.erase_obsolete-t.result
+    → table ≡ cond t.erase_obsolete-t.result.short a.table.now (table_of a.s (records_in opened.of-v.last.1.1.0) a.s.logical)
+    → PowerUpDone a.s (image_of a.bytes.now a.spare.now) a.table.now a.cut r t.erase_obsolete-t.new.0
+    t.erase_obsolete-t.new.1.0 table
 swept t e f =
     let new : tie.After-new = search (t) in
-    let passed : tie.Else1 = search (new) in
-    let opened : tie.After-of = search (passed) in
+    let passed : tie.Else-v-ne0 = search (new) in
+    let opened : tie.After-of-v = search (passed) in
     let a = (start opened).args in
-    power_up_done a.s a.bytes.now a.spare.now a.table.now a.cut (sym passed.if1.left ∙ refusal_is opened)
-    (opened_surveyed opened.of.ensures passed.if1.left).records new.new.ensures.0 t.erase-obsolete.ensures e f
+    power_up_done a.s a.bytes.now a.spare.now a.table.now a.cut (sym passed.if-v-ne0.false ∙ refusal_is opened)
+    (opened_surveyed opened.of-v.ensures passed.if-v-ne0.false).records new.new.ensures.0 t.erase_obsolete-t.ensures e f
 
-returns-2 : tie.Need-returns-2
+returns-2 : tie.Need-returns-then-t
 returns-2 c =
-    let cut : tie.Then2 = search (c) in
-    let erased : tie.After-erase-obsolete = search (cut) in
-    swept erased c.answer.ensures (sym (cond_yes erased.erase-obsolete.result.short _ _ (true_is _ cut.if2.taken)))
+    let cut : tie.Then-t = search (c) in
+    let erased : tie.After-erase_obsolete-t = search (cut) in
+    swept erased c.answer.ensures (sym (cond_yes erased.erase_obsolete-t.result.short _ _ (true_is _ cut.if-t.true)))
 
 fill-requires : tie.Need-fill-requires
 fill-requires c κs =
-    let passed : tie.Else1 = search (c) in
-    let opened : tie.After-of = search (passed) in
-    let sized : tie.After-table-sized = search (opened) in
-    let v = opened_surveyed opened.of.ensures passed.if1.left in
-    (eqb-true _ _ (sym sized.table-sized.ensures ∙ v.lengths), v.numbers_are)
+    let passed : tie.Else-v-ne0 = search (c) in
+    let opened : tie.After-of-v = search (passed) in
+    let sized : tie.After-table_sized-sized = search (opened) in
+    let v = opened_surveyed opened.of-v.ensures passed.if-v-ne0.false in
+    (eqb-true _ _ (sym sized.table_sized-sized.ensures ∙ v.lengths), v.numbers_are)
 
-returns-3 : tie.Need-returns-3
+returns-3 : tie.Need-returns
 returns-3 c =
     let filled : tie.After-fill = search (c) in
-    let done : tie.Else2 = search (filled) in
-    let erased : tie.After-erase-obsolete = search (done) in
-    swept erased c.answer2.ensures (filled.fill.ensures ∙ sym (cond_no erased.erase-obsolete.result.short _ _ (false_is _ done.if2.left)))
+    let done : tie.Else-t = search (filled) in
+    let erased : tie.After-erase_obsolete-t = search (done) in
+    swept erased c.answer-2.ensures (filled.fill.ensures ∙ sym (cond_no erased.erase_obsolete-t.result.short _ _ (false_is _ done.if-t.false)))
 
 pub power_up_spec : {M : Type 1} → statement M
 power_up_spec =
     tie.close
     (tie.spec (λ c κs. search rules) (λ c κs. search rules) (λ c. search rules) (λ c. search rules) returns (λ c κs. search rules)
-    erase-obsolete-requires (λ c κs. search rules) (λ c. search rules) (λ c. search rules) returns-2 fill-requires (λ c κs. search rules)
+    erase_obsolete-requires (λ c κs. search rules) (λ c. search rules) (λ c. search rules) returns-2 fill-requires (λ c κs. search rules)
     (λ c. search rules) (λ c. search rules) (λ c. search rules) returns-3)

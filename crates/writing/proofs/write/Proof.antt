@@ -21,101 +21,101 @@ use Rattle.writing.proofs.Accepting.{plan_needs, refused_first, refused_late}
 use Rattle.writing.proofs.write.Statement.{statement}
 use Rattle.writing.proofs.write.Tie as tie
 
-abbrev start : tie.After-of → tie.Start
+abbrev start : tie.After-of-v → tie.Start
 start t = search (t)
 
-refusal_is : (t : tie.After-of) →
+refusal_is : (t : tie.After-of-v) →
     let a = (start t).args in
-    t.of.result.refusal ≡ open_refusal a.s (image_of a.bytes.now a.spare.now) (eqb (length a.page.now) 512) (in_range a.s a.a)
+    t.of-v.result.refusal ≡ open_refusal a.s (image_of a.bytes.now a.spare.now) (eqb (length a.page.now) 512) (in_range a.s a.a)
 refusal_is t =
-    let ranged : tie.After-in-range = search (t) in
+    let ranged : tie.After-in_range-ranged = search (t) in
     let a = (start t).args in
-    t.of.ensures.refusal_is ∙ ap (open_refusal a.s (image_of a.bytes.now a.spare.now) (eqb (length a.page.now) 512)) ranged.in_range.ensures
+    t.of-v.ensures.refusal_is ∙ ap (open_refusal a.s (image_of a.bytes.now a.spare.now) (eqb (length a.page.now) 512)) ranged.in_range-ranged.ensures
 
 -- once 1 to 5 do not apply
-late_is : (t : tie.After-of-write) →
-    let opened : tie.After-of = search (t) in
+late_is : (t : tie.After-of_write-late) →
+    let opened : tie.After-of-v = search (t) in
     let a = (start opened).args in
     let im = image_of a.bytes.now a.spare.now in
-    t.of-write.result ≡ write_refusal a.s im (blocks_of a.s im) (length a.page.now) a.a
+    t.of_write-late.result ≡ write_refusal a.s im (blocks_of a.s im) (length a.page.now) a.a
 late_is t =
-    let plan : tie.After-of2 = search (t) in
-    let passed : tie.Else1 = search (plan) in
-    let opened : tie.After-of = search (passed) in
+    let plan : tie.After-of-p = search (t) in
+    let passed : tie.Else-v-ne0 = search (plan) in
+    let opened : tie.After-of-v = search (passed) in
     let a = (start opened).args in
-    let v = opened_surveyed opened.of.ensures passed.if1.left in
+    let v = opened_surveyed opened.of-v.ensures passed.if-v-ne0.false in
     let im = image_of a.bytes.now a.spare.now in
-    refused_late a.s im _ (write_order a.s im (length a.page.now) a.a (refusal_is opened)) passed.if1.left v.records v.census_is
-    (plan_needs a.s a.a v.records plan.of2.ensures) t.of-write.ensures
+    refused_late a.s im _ (write_order a.s im (length a.page.now) a.a (refusal_is opened)) passed.if-v-ne0.false v.records v.census_is
+    (plan_needs a.s a.a v.records plan.of-p.ensures) t.of_write-late.ensures
 
-planned : (t : tie.Else2) →
-    let plan : tie.After-of2 = search (t) in
-    let opened : tie.After-of = search (plan) in
+planned : (t : tie.Else-late-ne0) →
+    let plan : tie.After-of-p = search (t) in
+    let opened : tie.After-of-v = search (plan) in
     let a = (start opened).args in
-    Ready a.s (image_of a.bytes.now a.spare.now) (records_in opened.of.last.1.1.0) plan.of2.result a.a a.page.now
+    Ready a.s (image_of a.bytes.now a.spare.now) (records_in opened.of-v.last.1.1.0) plan.of-p.result a.a a.page.now
 planned t =
-    let late : tie.After-of-write = search (t) in
-    let plan : tie.After-of2 = search (late) in
-    let passed : tie.Else1 = search (plan) in
-    let opened : tie.After-of = search (passed) in
+    let late : tie.After-of_write-late = search (t) in
+    let plan : tie.After-of-p = search (late) in
+    let passed : tie.Else-v-ne0 = search (plan) in
+    let opened : tie.After-of-v = search (passed) in
     let a = (start opened).args in
     let im = image_of a.bytes.now a.spare.now in
-    let w = write_taken a.s im (length a.page.now) a.a (sym (late_is late) ∙ t.if2.false) in
+    let w = write_taken a.s im (length a.page.now) a.a (sym (late_is late) ∙ t.if-late-ne0.false) in
     ready a.s im w.sound w.clean a.a w.inside a.page.now w.long
-    (opened_surveyed opened.of.ensures passed.if1.left).records plan.of2.ensures w.fit
+    (opened_surveyed opened.of-v.ensures passed.if-v-ne0.false).records plan.of-p.ensures w.fit
 
-returns : tie.Need-returns
+returns : tie.Need-returns-then-v-ne0
 unfolding write_reply
 returns c =
-    let opened : tie.After-of = search (c) in
+    let opened : tie.After-of-v = search (c) in
     let a = (start opened).args in
     let im = image_of a.bytes.now a.spare.now in
     replied_refused a.s a.bytes.now a.spare.now a.cut (write_list a.s im (blocks_of a.s im) a.a a.page.now)
-    (refused_first a.s im _ (write_order a.s im (length a.page.now) a.a (refusal_is opened)) c.if1.true) c.if1.true
+    (refused_first a.s im _ (write_order a.s im (length a.page.now) a.a (refusal_is opened)) c.if-v-ne0.true) c.if-v-ne0.true
 
-of-requires-2 : tie.Need-of-requires-2
+of-requires-2 : tie.Need-of-p-requires
 of-requires-2 c κs =
-    let passed : tie.Else1 = search (c) in
-    let opened : tie.After-of = search (passed) in
-    let v = opened_surveyed opened.of.ensures passed.if1.left in
+    let passed : tie.Else-v-ne0 = search (c) in
+    let opened : tie.After-of-v = search (passed) in
+    let v = opened_surveyed opened.of-v.ensures passed.if-v-ne0.false in
     (v.within.limits, v.numbers_are, v.census_is)
 
-returns-2 : tie.Need-returns-2
+returns-2 : tie.Need-returns-then-late-ne0
 unfolding write_reply
 returns-2 c =
-    let late : tie.After-of-write = search (c) in
-    let opened : tie.After-of = search (late) in
+    let late : tie.After-of_write-late = search (c) in
+    let opened : tie.After-of-v = search (late) in
     let a = (start opened).args in
     let im = image_of a.bytes.now a.spare.now in
     replied_refused a.s a.bytes.now a.spare.now a.cut (write_list a.s im (blocks_of a.s im) a.a a.page.now)
-    (late_is late) c.if2.true
+    (late_is late) c.if-late-ne0.true
 
-carry-out-requires : tie.Need-carry-out-requires
-carry-out-requires c κs =
-    let new : tie.After-new = search (c) in
-    let accepted : tie.Else2 = search (new) in
-    let passed : tie.Else1 = search (accepted) in
-    let opened : tie.After-of = search (passed) in
-    let v = opened_surveyed opened.of.ensures passed.if1.left in
-    (v.within, eqb-true _ _ v.lengths, v.numbers_are, (planned accepted).doable, new.new.ensures.1)
+carry_out-requires : tie.Need-carry_out-requires
+carry_out-requires c κs =
+    let new : tie.After-new-t = search (c) in
+    let accepted : tie.Else-late-ne0 = search (new) in
+    let passed : tie.Else-v-ne0 = search (accepted) in
+    let opened : tie.After-of-v = search (passed) in
+    let v = opened_surveyed opened.of-v.ensures passed.if-v-ne0.false in
+    (v.within, eqb-true _ _ v.lengths, v.numbers_are, (planned accepted).doable, new.new-t.ensures.1)
 
-returns-3 : tie.Need-returns-3
+returns-3 : tie.Need-returns
 unfolding write_reply
 returns-3 c =
-    let carried : tie.After-carry-out = search (c) in
-    let new : tie.After-new = search (carried) in
-    let accepted : tie.Else2 = search (new) in
-    let late : tie.After-of-write = search (accepted) in
-    let opened : tie.After-of = search (late) in
+    let carried : tie.After-carry_out = search (c) in
+    let new : tie.After-new-t = search (carried) in
+    let accepted : tie.Else-late-ne0 = search (new) in
+    let late : tie.After-of_write-late = search (accepted) in
+    let opened : tie.After-of-v = search (late) in
     let a = (start opened).args in
     let im = image_of a.bytes.now a.spare.now in
     replied_done a.s a.bytes.now a.spare.now a.cut (write_list a.s im (blocks_of a.s im) a.a a.page.now)
-    (sym accepted.if2.left ∙ late_is late) new.new.ensures.0 (ran_same (planned accepted).steps_are carried.carry-out.ensures)
+    (sym accepted.if-late-ne0.false ∙ late_is late) new.new-t.ensures.0 (ran_same (planned accepted).steps_are carried.carry_out.ensures)
     c.answer.ensures
 
 pub write_spec : {M : Type 1} → statement M
 write_spec =
     tie.close
     (tie.spec (λ c κs. search rules) (λ c κs. search rules) (λ c. search rules) (λ c. search rules) returns of-requires-2 (λ c κs. search rules)
-    (λ c. search rules) (λ c. search rules) returns-2 (λ c κs. search rules) carry-out-requires (λ c κs. search rules) (λ c. search rules)
+    (λ c. search rules) (λ c. search rules) returns-2 (λ c κs. search rules) carry_out-requires (λ c κs. search rules) (λ c. search rules)
     (λ c. search rules) returns-3)
