@@ -6,8 +6,8 @@ use Rattle.card.proofs.format.Tie as tie
 returns : tie.Need-returns
 returns c =
     let done : tie.After-format = search (c) in
-    let shape : tie.After-of = search (done) in
-    rw shape.of.ensures at done.format.ensures
+    let shape : tie.After-of-s = search (done) in
+    rw shape.of-s.ensures at done.format.ensures
 
 pub format_spec : {M : Type 1} → statement M
 format_spec = tie.close (tie.spec (λ c κs. search rules) (λ c κs. search rules) (λ c. search rules) (λ c. search rules) returns)

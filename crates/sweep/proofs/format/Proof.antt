@@ -3,7 +3,6 @@ use mathlib.Core.Path.{◌≡◌, sym, ap, ◌∙◌}
 use mathlib.Core.Bool.{not, false}
 use native.Mathlib.Omega.{arith}
 use lib.ListN.{length}
-use borrow.Author.Tests.{not-false}
 use borrow.Author.Rules.{rules}
 use Rattle.rules.specs.Facts.{image_of, Within}
 use Rattle.rules.specs.WellFormed.{blocks_of}
@@ -25,7 +24,7 @@ inside : (t : tie.Else-not-within) →
     outside_limits a.s (image_of a.bytes.now a.spare.now) ≡ false
 inside t =
     let asked : tie.After-within = search (t) in
-    sym (ap not asked.within.ensures) ∙ t.if-not-within.false
+    ap not (sym asked.within.ensures ∙ t.if-not-within.false)
 
 within : (t : tie.Else-not-within) →
     let start : tie.Start = search (t) in
@@ -33,7 +32,7 @@ within : (t : tie.Else-not-within) →
     Within a.s (length a.bytes.now) (length a.spare.now)
 within t =
     let asked : tie.After-within = search (t) in
-    within_limits_within _ _ _ (true_is _ (sym asked.within.ensures ∙ not-false _ t.if-not-within.false))
+    within_limits_within _ _ _ (true_is _ (sym asked.within.ensures ∙ t.if-not-within.false))
 
 -- whether 4 applies
 few : (t : tie.After-short_of) →
@@ -43,8 +42,8 @@ few : (t : tie.After-short_of) →
 few t =
     let start : tie.Start = search (t) in
     let read : tie.After-scan_use = search (t) in
-    let counted : tie.After-good2 = search (t) in
-    few_by start.args.s _ counted.good2.ensures t.short_of.ensures ∙ ap (too_few_good start.args.s) read.scan_use.ensures.records
+    let counted : tie.After-good = search (t) in
+    few_by start.args.s _ counted.good.ensures t.short_of.ensures ∙ ap (too_few_good start.args.s) read.scan_use.ensures.records
     ∙ few_same start.args.s (image_of start.args.bytes.now start.args.spare.now)
 
 returns : tie.Need-returns-then-not-within
@@ -56,7 +55,7 @@ returns c =
     let im = image_of a.bytes.now a.spare.now in
     let b = blocks_of a.s im in
     replied_refused a.s a.bytes.now a.spare.now a.cut (format_list a.s b)
-    (format_outside a.s im b (sym (ap not asked.within.ensures) ∙ c.if-not-within.true)) (λ z. omega arith)
+    (format_outside a.s im b (ap not (sym asked.within.ensures ∙ c.if-not-within.true))) (λ z. omega arith)
 
 scan_use-requires : tie.Need-scan_use-requires
 scan_use-requires c κs =

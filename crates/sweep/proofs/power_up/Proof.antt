@@ -53,9 +53,9 @@ swept : (t : tie.After-erase_obsolete-t) {r : Answer} {table : List ℕ} →
     let opened : tie.After-of-v = search (t) in
     let a = (start opened).args in
     r ≡ finished t.erase_obsolete-t.result
-    → table ≡ cond t.erase_obsolete-t.result.short a.table.now (table_of a.s (records_in opened.of-v.last.1.1.0) a.s.logical)
-    → PowerUpDone a.s (image_of a.bytes.now a.spare.now) a.table.now a.cut r t.erase_obsolete-t.new.0
-    t.erase_obsolete-t.new.1.0 table
+    → table ≡ cond t.erase_obsolete-t.result.short a.table.now (table_of a.s (records_in opened.of-v.new.list) a.s.logical)
+    → PowerUpDone a.s (image_of a.bytes.now a.spare.now) a.table.now a.cut r t.erase_obsolete-t.new.bytes
+    t.erase_obsolete-t.new.spare table
 swept t e f =
     let new : tie.After-new = search (t) in
     let passed : tie.Else-v-ne0 = search (new) in

@@ -55,7 +55,7 @@ planned : (t : tie.After-by-r) →
     let opened : tie.After-of-v = search (t) in
     let a = (start opened).args in
     let im = image_of a.bytes.now a.spare.now in
-    let c = records_in opened.of-v.last.1.1.0 in
+    let c = records_in opened.of-v.new.list in
     let r = t.by-r.result in
     Renewable a.s r a.block.now × Kept a.s im c r a.block.now
     × (renewal_steps a.s im c r a.block.now ≡ block_write_list a.s (blocks_of a.s im) a.l a.block.now)

@@ -52,7 +52,7 @@ planned : (t : tie.Else-late-ne0) →
     let plan : tie.After-of-p = search (t) in
     let opened : tie.After-of-v = search (plan) in
     let a = (start opened).args in
-    Ready a.s (image_of a.bytes.now a.spare.now) (records_in opened.of-v.last.1.1.0) plan.of-p.result a.a a.page.now
+    Ready a.s (image_of a.bytes.now a.spare.now) (records_in opened.of-v.new.list) plan.of-p.result a.a a.page.now
 planned t =
     let late : tie.After-of_write-late = search (t) in
     let plan : tie.After-of-p = search (late) in
