@@ -1,30 +1,28 @@
 // What is written: text, numbers, and sums of bytes.
-use libc::STDOUT_FILENO;
 use rules::answer::Answer;
-use std::num::wrapping_add_usize;
+use std::io;
 
-pub(crate) fn text(letters: &[u8]) {
-    io::write_all(STDOUT_FILENO, letters);
+pub(crate) fn text(out: &impl Print, letters: &[u8]) -> io::Result<()> {
+    out.write_all(letters)
 }
 
-fn number(n: usize) {
-    text(b" ");
-    io::print_decimal(STDOUT_FILENO, n as u64);
+fn number(out: &impl Print, n: usize) -> io::Result<()> {
+    print!(out; " {n}")
 }
 
 // The number of an answer, its programs and its erases.
-pub(crate) fn answer(a: Answer) {
-    number(a.number() as usize);
-    number(a.programs());
-    number(a.erases());
+pub(crate) fn answer(out: &impl Print, a: Answer) -> io::Result<()> {
+    number(out, a.number() as usize)?;
+    number(out, a.programs())?;
+    number(out, a.erases())
 }
 
 // Power-up's table.
-pub(crate) fn table(t: [u16; 4]) {
-    number(t[0] as usize);
-    number(t[1] as usize);
-    number(t[2] as usize);
-    number(t[3] as usize);
+pub(crate) fn table(out: &impl Print, t: [u16; 4]) -> io::Result<()> {
+    number(out, t[0] as usize)?;
+    number(out, t[1] as usize)?;
+    number(out, t[2] as usize)?;
+    number(out, t[3] as usize)
 }
 
 fn wide(x: u8) -> usize {
@@ -33,21 +31,25 @@ fn wide(x: u8) -> usize {
 
 // The sum of each byte times its place, from 1 on. A byte in front moves the others a place on: `placed` grows by the sum of all.
 // No sum here wraps: there are at most 133,120 bytes.
-pub(crate) fn sum(bytes: &[u8]) {
-    let mut all = 0;
-    let mut placed = 0;
+pub(crate) fn sum(out: &impl Print, bytes: &[u8]) -> io::Result<()> {
+    number(out, placed_sum(bytes))
+}
+
+fn placed_sum(bytes: &[u8]) -> usize {
+    let mut all = 0usize;
+    let mut placed = 0usize;
     let mut i = bytes.len();
     while i > 0 {
         i -= 1;
-        all = wrapping_add_usize(all, wide(bytes[i]));
-        placed = wrapping_add_usize(placed, all);
+        all = all.wrapping_add(wide(bytes[i]));
+        placed = placed.wrapping_add(all);
     }
-    number(placed);
+    placed
 }
 
 // The end of a line: the sums of the data bytes and of the spare bytes.
-pub(crate) fn image(bytes: &[u8], spare: &[u8]) {
-    sum(bytes);
-    sum(spare);
-    text(b"\n");
+pub(crate) fn image(out: &impl Print, bytes: &[u8], spare: &[u8]) -> io::Result<()> {
+    sum(out, bytes)?;
+    sum(out, spare)?;
+    text(out, b"\n")
 }

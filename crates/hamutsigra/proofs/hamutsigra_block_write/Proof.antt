@@ -7,8 +7,8 @@ use Rattle.hamutsigra.proofs.hamutsigra_block_write.Tie as tie
 
 pack-requires : tie.Need-pack-requires
 pack-requires c κs =
-    let done : tie.After-block-write = search (c) in
-    subst InBits (sym done.block-write.ensures.answer) (block_write_reply_fits _ _ _ _ _)
+    let done : tie.After-block_write = search (c) in
+    subst InBits (sym done.block_write.ensures.answer) (block_write_reply_fits _ _ _ _ _)
 
 pub hamutsigra_block_write_spec : {M : Type 1} → statement M
 hamutsigra_block_write_spec = tie.close (tie.spec (λ c κs. search rules) pack-requires (λ c. search rules) (λ c. search rules) (λ c. search rules))

@@ -7,8 +7,8 @@ use Rattle.hamutsigra.proofs.hamutsigra_power_up.Tie as tie
 
 pack-requires : tie.Need-pack-requires
 pack-requires c κs =
-    let done : tie.After-power-up = search (c) in
-    subst InBits (sym done.power-up.ensures.replied.answer) (power_up_reply_fits _ _ _ _)
+    let done : tie.After-power_up = search (c) in
+    subst InBits (sym done.power_up.ensures.replied.answer) (power_up_reply_fits _ _ _ _)
 
 pub hamutsigra_power_up_spec : {M : Type 1} → statement M
 hamutsigra_power_up_spec =
