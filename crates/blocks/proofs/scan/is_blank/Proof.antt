@@ -3,7 +3,6 @@ use mathlib.Core.Path.{◌≡◌, subst}
 use Prim.Native.Nat.{ℕ, ◌≤◌, ◌-◌}
 use native.Mathlib.Omega.{arith}
 use borrow.Author.Rules.{rules}
-use borrow.Author.Tests.{not-true, not-false}
 use Rattle.rules.specs.Facts.{image_of}
 use Rattle.rules.specs.WellFormed.{pages_of}
 use Rattle.blocks.proofs.Image.{ErasedTo, blank_turn, blank_not, blank_all}

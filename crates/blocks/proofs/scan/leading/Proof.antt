@@ -3,7 +3,6 @@ use mathlib.Core.Path.{sym, ◌∙◌}
 use Prim.Native.Nat.{◌≤◌, ◌-◌}
 use native.Mathlib.Omega.{arith}
 use borrow.Author.Rules.{rules}
-use borrow.Author.Tests.{not-true, not-false}
 use Rattle.rules.specs.Facts.{image_of}
 use Rattle.rules.specs.WellFormed.{pages_of}
 use Rattle.laws.proofs.Bytes.{part_lent_length}
