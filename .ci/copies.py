@@ -40,7 +40,7 @@ def copy_of(*crates):
         root = Path(folder)
         depends = needed(crates)
         for name in depends:
-            shutil.copytree(ROOT / 'crates' / name, root / 'crates' / name)
+            shutil.copytree(ROOT / 'crates' / name, root / 'crates' / name, ignore=shutil.ignore_patterns('out'))
         (root / 'crates.txt').write_text(''.join(f'{n}: {" ".join(d)}\n' for n, d in depends.items()))
         without_functions(root / 'crates' / 'rules')
         yield root
@@ -48,7 +48,7 @@ def copy_of(*crates):
 
 def check(root, crate):
     """The status and the output of a check of the crate from nothing."""
-    run = subprocess.run(['rt', 'check', crate], cwd=root, text=True, capture_output=True)
+    run = subprocess.run(['rt', 'check'], cwd=root / 'crates' / crate, text=True, capture_output=True)
     return run.returncode, run.stdout + run.stderr
 
 

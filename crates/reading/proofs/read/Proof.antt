@@ -1,5 +1,7 @@
 -- `reading::read` meets its contract.
 use mathlib.Core.Path.{◌≡◌, sym, ◌∙◌}
+use mathlib.Core.Logic.{◌≢◌}
+use native.Mathlib.Omega.{arith}
 use lib.ListN.{length}
 use borrow.Author.Tests.{eqb-true}
 use borrow.Author.Rules.{rules}
@@ -22,29 +24,31 @@ refusal_is t =
     let a = start.args in
     read_opened a.s (image_of a.bytes.now a.spare.now) (length a.page.now) a.a t.of-v.ensures.refusal_is ranged.in_range-ranged.ensures
 
-returns : tie.Need-returns-then-v-ne0
+fetch-requires : tie.Need-fetch-requires
+fetch-requires c κs =
+    let opened : tie.After-of-v = search (c) in
+    let none : opened.of-v.result.refusal ≡ 0 = omega arith in
+    let v = opened_surveyed opened.of-v.ensures none in
+    (v.within, eqb-true _ _ v.lengths, v.numbers_are)
+
+returns : tie.Need-returns
 returns c =
+    let fetched : tie.After-fetch = search (c) in
+    let opened : tie.After-of-v = search (fetched) in
+    let start : tie.Start = search (opened) in
+    let a = start.args in
+    let none : opened.of-v.result.refusal ≡ 0 = omega arith in
+    read_done a.s (image_of a.bytes.now a.spare.now) a.page.now a.a (sym (refusal_is opened) ∙ none)
+    (opened_surveyed opened.of-v.ensures none).records fetched.fetch.ensures
+
+pub read_spec : {M : Type 1} → statement M
+read_spec =
+    tie.close
+    (tie.spec (λ c κs. search rules) (λ c κs. search rules)
+    (λ c.
     let opened : tie.After-of-v = search (c) in
     let start : tie.Start = search (opened) in
     let a = start.args in
-    read_refused a.s (image_of a.bytes.now a.spare.now) a.page.now a.a (refusal_is opened) c.if-v-ne0.true
-
-fetch-requires : tie.Need-fetch-requires
-fetch-requires c κs =
-    let passed : tie.Else-v-ne0 = search (c) in
-    let opened : tie.After-of-v = search (passed) in
-    let v = opened_surveyed opened.of-v.ensures passed.if-v-ne0.false in
-    (v.within, eqb-true _ _ v.lengths, v.numbers_are)
-
-returns-2 : tie.Need-returns
-returns-2 c =
-    let fetched : tie.After-fetch = search (c) in
-    let passed : tie.Else-v-ne0 = search (fetched) in
-    let opened : tie.After-of-v = search (passed) in
-    let start : tie.Start = search (opened) in
-    let a = start.args in
-    read_done a.s (image_of a.bytes.now a.spare.now) a.page.now a.a (sym (refusal_is opened) ∙ passed.if-v-ne0.false)
-    (opened_surveyed opened.of-v.ensures passed.if-v-ne0.false).records fetched.fetch.ensures
-
-pub read_spec : {M : Type 1} → statement M
-read_spec = tie.close (tie.spec (λ c κs. search rules) (λ c κs. search rules) returns fetch-requires (λ c. search rules) returns-2)
+    let some : opened.of-v.result.refusal ≢ 0 = omega arith in
+    read_refused a.s (image_of a.bytes.now a.spare.now) a.page.now a.a (refusal_is opened) some)
+    fetch-requires (λ c. search rules) returns)

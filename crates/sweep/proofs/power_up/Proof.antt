@@ -1,6 +1,6 @@
 -- `sweep::power_up` meets its contract.
 use mathlib.Core.Path.{◌≡◌, sym, ap, ◌∙◌}
-use mathlib.Core.Bool.{Bool, true, cond}
+use mathlib.Core.Bool.{Bool, true, false, cond}
 use mathlib.Core.List.{List}
 use Prim.Native.Nat.{ℕ}
 use lib.ListN.{length}
@@ -64,12 +64,6 @@ swept t e f =
     power_up_done a.s a.bytes.now a.spare.now a.table.now a.cut (sym passed.if-v-ne0.false ∙ refusal_is opened)
     (opened_surveyed opened.of-v.ensures passed.if-v-ne0.false).records new.new.ensures.0 t.erase_obsolete-t.ensures e f
 
-returns-2 : tie.Need-returns-then-t
-returns-2 c =
-    let cut : tie.Then-t = search (c) in
-    let erased : tie.After-erase_obsolete-t = search (cut) in
-    swept erased c.answer.ensures (sym (cond_yes erased.erase_obsolete-t.result.short _ _ (true_is _ cut.if-t.true)))
-
 fill-requires : tie.Need-fill-requires
 fill-requires c κs =
     let passed : tie.Else-v-ne0 = search (c) in
@@ -78,16 +72,21 @@ fill-requires c κs =
     let v = opened_surveyed opened.of-v.ensures passed.if-v-ne0.false in
     (eqb-true _ _ (sym sized.table_sized-sized.ensures ∙ v.lengths), v.numbers_are)
 
-returns-3 : tie.Need-returns
-returns-3 c =
+returns-2 : tie.Need-returns
+returns-2 c =
     let filled : tie.After-fill = search (c) in
-    let done : tie.Else-t = search (filled) in
-    let erased : tie.After-erase_obsolete-t = search (done) in
-    swept erased c.answer-2.ensures (filled.fill.ensures ∙ sym (cond_no erased.erase_obsolete-t.result.short _ _ (false_is _ done.if-t.false)))
+    let erased : tie.After-erase_obsolete-t = search (filled) in
+    let whole : erased.erase_obsolete-t.result.short ≡ false = search (filled) in
+    swept erased c.answer-2.ensures (filled.fill.ensures ∙ sym (cond_no erased.erase_obsolete-t.result.short _ _ (false_is _ whole)))
 
 pub power_up_spec : {M : Type 1} → statement M
 power_up_spec =
     tie.close
     (tie.spec (λ c κs. search rules) (λ c κs. search rules) (λ c. search rules) (λ c. search rules) returns (λ c κs. search rules)
-    erase_obsolete-requires (λ c κs. search rules) (λ c. search rules) (λ c. search rules) returns-2 fill-requires (λ c κs. search rules)
-    (λ c. search rules) (λ c. search rules) (λ c. search rules) returns-3)
+    erase_obsolete-requires (λ c κs. search rules) (λ c. search rules) (λ c. search rules)
+    (λ c.
+    let erased : tie.After-erase_obsolete-t = search (c) in
+    let cut : erased.erase_obsolete-t.result.short ≡ true = search (c) in
+    swept erased c.answer.ensures (sym (cond_yes erased.erase_obsolete-t.result.short _ _ (true_is _ cut))))
+    fill-requires (λ c κs. search rules)
+    (λ c. search rules) (λ c. search rules) (λ c. search rules) returns-2)

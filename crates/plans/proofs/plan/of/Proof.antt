@@ -1,3 +1,5 @@
+use Prim.Native.Nat.{◌≤◌, ◌<◌}
+use native.Mathlib.Omega.{arith}
 use borrow.Author.Rules.{rules}
 use Rattle.words.specs.Words.{records_in}
 use Rattle.plans.proofs.Choosing.{of_room, of_full, of-fresh, of-victim}
@@ -29,29 +31,27 @@ returns-2 c =
     of_full a.s (records_in a.list.now) a.a here.of-q.ensures some.if-q-ne-NONE.true x.record_at-x.ensures full.if-x-pages.false
     c.merge_first.ensures
 
-returns-3 : tie.Need-returns-then-t-s
+returns-3 : tie.Need-returns
 returns-3 c =
-    let few : tie.Then-t-s = search (c) in
-    let none : tie.Else-q-ne-NONE = search (few) in
-    let here : tie.After-of-q = search (none) in
-    let start : tie.Start = search (here) in
-    let a = start.args in
-    of-fresh a.s (records_in a.list.now) a.a here.of-q.ensures start.requires.2 none.if-q-ne-NONE.false few.if-t-s.true c.unmerged.ensures
-
-returns-4 : tie.Need-returns
-returns-4 c =
     let victim : tie.After-oldest-m = search (c) in
-    let most : tie.Else-t-s = search (victim) in
-    let none : tie.Else-q-ne-NONE = search (most) in
+    let none : tie.Else-q-ne-NONE = search (victim) in
     let here : tie.After-of-q = search (none) in
     let start : tie.Start = search (here) in
     let a = start.args in
-    of-victim a.s (records_in a.list.now) a.a here.of-q.ensures start.requires.2 none.if-q-ne-NONE.false most.if-t-s.false
+    let most : a.s.logs ≤ a.t.live = omega arith in
+    of-victim a.s (records_in a.list.now) a.a here.of-q.ensures start.requires.2 none.if-q-ne-NONE.false most
     victim.oldest-m.ensures c.merge_first-2.ensures
 
 pub of_spec : {M : Type 1} → statement M
 of_spec =
     tie.close
     (tie.spec (λ c. search rules) (λ c κs. search rules) (λ c κs. search rules) (λ c. search rules)
-    append-requires returns (λ c κs. search rules) returns-2 (λ c κs. search rules) returns-3
-    (λ c κs. search rules) (λ c κs. search rules) (λ c κs. search rules) returns-4)
+    append-requires returns (λ c κs. search rules) returns-2 (λ c κs. search rules)
+    (λ c.
+    let none : tie.Else-q-ne-NONE = search (c) in
+    let here : tie.After-of-q = search (none) in
+    let start : tie.Start = search (here) in
+    let a = start.args in
+    let few : a.t.live < a.s.logs = omega arith in
+    of-fresh a.s (records_in a.list.now) a.a here.of-q.ensures start.requires.2 none.if-q-ne-NONE.false few c.unmerged.ensures)
+    (λ c κs. search rules) (λ c κs. search rules) (λ c κs. search rules) returns-3)

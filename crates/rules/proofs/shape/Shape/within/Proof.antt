@@ -1,6 +1,6 @@
 -- Each return gives what within_limits computes to, by the tests that led there.
 use mathlib.Core.Bool.{and-false}
-use Prim.Native.Nat.{◌*◌, ◌≤◌}
+use Prim.Native.Nat.{◌*◌, ◌≤◌, ◌<◌}
 use native.Mathlib.Omega.{arith}
 use borrow.Author.Rules.{rules}
 use borrow.Author.Tests.{lt-leb, le-leb, ne_eqb, eq-eqb}
@@ -38,7 +38,7 @@ within_spec =
     (λ c. simp (lt-leb _ _ c.if-pages-lt2.true))
     (λ c. simp (lt-leb _ _ c.if-pages-gt32.true, and-false))
     (λ c. simp (lt-leb _ _ c.if-blocks-lt3.true, and-false))
-    (λ c. simp (lt-leb _ _ c.if-blocks-gt-MOST.true, and-false))
+    (λ c. let many : most < c.args.self.blocks = omega arith in simp (lt-leb _ _ many, and-false))
     (λ c. simp (lt-leb _ _ c.if-self-lt1.true, and-false))
     (λ c. simp (lt-leb _ _ c.if-self-lt1-2.true, and-false))
     (λ c. omega (arith, fitting c))
