@@ -35,6 +35,7 @@ KIT := $(shell command -v rt)
 lib: $(LIBRARY)
 $(LIBRARY): $(SOURCES) $(KIT)
 	@echo "proving $(words $(CRATES)) crates, some minutes"
+	cd crates/card && rt check
 	cd crates/hamutsigra && rt lib
 	@mkdir -p $(@D)
 	cp crates/hamutsigra/out/libhamutsigra.a $@

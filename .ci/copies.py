@@ -10,16 +10,17 @@ ROOT = Path(__file__).resolve().parent.parent
 
 
 def needed(crates):
-    """The crates and what they depend on, as crates.txt has them."""
-    lines = [line.split('#')[0].partition(':') for line in (ROOT / 'crates.txt').read_text().splitlines()]
-    depends = {name.strip(): words.split() for name, _, words in lines if name.strip()}
-    found, left = [], list(crates)
+    """The crates and what they depend on, as crates.txt has them: of each what kind it is, and the crates that it uses."""
+    lines = [line.split('#')[0] for line in (ROOT / 'crates.txt').read_text().splitlines()]
+    found = [re.match(r' *(\w+)((?: staticlib)?) *:(.*)', line) for line in lines]
+    depends = {m[1]: (m[2], m[3].split()) for m in found if m}
+    wanted, left = [], list(crates)
     while left:
         name = left.pop()
-        if name in depends and name not in found:
-            found.append(name)
-            left += depends[name]
-    return {name: depends[name] for name in found}
+        if name in depends and name not in wanted:
+            wanted.append(name)
+            left += depends[name][1]
+    return {name: depends[name] for name in wanted}
 
 
 def without_functions(crate):
@@ -34,34 +35,45 @@ def without_functions(crate):
 
 @contextmanager
 def copy_of(*crates):
-    """A folder with the crates and what they need, where the definitions may be changed. The functions of rules are left out:
-    a change is held to what is claimed and proved of the definitions, and no claim or law rests on a function."""
+    """A folder with the crates and what they need, where they may be changed."""
     with tempfile.TemporaryDirectory() as folder:
         root = Path(folder)
         depends = needed(crates)
         for name in depends:
-            shutil.copytree(ROOT / 'crates' / name, root / 'crates' / name, ignore=shutil.ignore_patterns('out'))
-        (root / 'crates.txt').write_text(''.join(f'{n}: {" ".join(d)}\n' for n, d in depends.items()))
+            shutil.copytree(ROOT / 'crates' / name, root / 'crates' / name, ignore=shutil.ignore_patterns('out', 'must-fail'))
+        (root / 'crates.txt').write_text(''.join(f'{name}{kind}: {" ".join(words)}\n' for name, (kind, words) in depends.items()))
+        yield root
+
+
+@contextmanager
+def definitions_of(*crates):
+    """The same where the definitions may be changed: the functions of rules are left out, since a change is held to what is claimed and
+    proved of the definitions, and no claim or law rests on a function."""
+    with copy_of(*crates) as root:
         without_functions(root / 'crates' / 'rules')
         yield root
 
 
 def check(root, crate):
-    """The status and the output of a check of the crate from nothing."""
+    """The status and the output of a check of the crate."""
     run = subprocess.run(['rt', 'check'], cwd=root / 'crates' / crate, text=True, capture_output=True)
     return run.returncode, run.stdout + run.stderr
 
 
 def refusals(out):
-    """Where the prover refused: each function or file with the declarations there, as 'page::page_at returns-2, Merge merge-end'.
+    """Where the prover refused: each function or file with the declarations there, as 'page::page_at returns-2, Merge merge_end'.
     What only rests on a refused declaration is no refusal of its own."""
     places = {}
-    for file, name, said in re.findall(r'^(\S+)\.\w+:\d+:\d+: error: `([^`]+)`(.*)', out, flags=re.M):
-        if 'was not admitted' not in said:
-            path = re.split(r'/(?:proofs|specs|src)/', file)[-1].split('/')
-            place = '::'.join(path[:-1]) if path[-1] == 'Proof' else path[-1]
-            places.setdefault(place, set()).add(name)
-    # A function with no file of proof has one by `search`.
-    for place, names in re.findall(r'^fn \w+::(\S+): no proof: .*`search` does not close (.*)', out, flags=re.M):
+    for file, name in re.findall(r'^(?:\./)?(?:proofs|specs)/(\S+)\.antt:\d+:\d+: error: `([^`]+)`: ', out, flags=re.M):
+        path = file.split('/')
+        place = '::'.join(path[:-1]) if path[-1] in ('Proof', 'Answers', 'Invariants') else path[-1]
+        places.setdefault(place, set()).add(name)
+    # A function whose proof the prover finds by itself.
+    for place, names in re.findall(r'^fn \w+::(\S+): no proof: .*`search` did not prove (.*)', out, flags=re.M):
         places.setdefault(place, set()).update(re.findall(r'`([^`]+)`', names))
     return ', '.join(f'{place} {" ".join(sorted(names))}' for place, names in sorted(places.items()))
+
+
+def by_form(out):
+    """A line that says that a proof names what is no longer there: such a refusal shows nothing of the meaning."""
+    return next((line for line in out.splitlines() if re.search(r'has no field|is not in scope|has no `|that can be named from here', line)), None)

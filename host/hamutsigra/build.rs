@@ -1,5 +1,5 @@
 //! Links `libhamutsigra.a`, the proved layer. It is looked for in the folder
-//! `HAMUTSIGRA_LIB_DIR`, else where `rt staticlib hamutsigra` writes it.
+//! `HAMUTSIGRA_LIB_DIR`, else where `make lib` puts it.
 
 use std::env;
 use std::path::{Path, PathBuf};
@@ -7,7 +7,7 @@ use std::process::exit;
 
 fn main() {
     println!("cargo:rerun-if-env-changed=HAMUTSIGRA_LIB_DIR");
-    let folder = env::var_os("HAMUTSIGRA_LIB_DIR").map_or_else(written_by_rt, PathBuf::from);
+    let folder = env::var_os("HAMUTSIGRA_LIB_DIR").map_or_else(put_by_make, PathBuf::from);
     let library = folder.join("libhamutsigra.a");
     println!("cargo:rerun-if-changed={}", library.display());
     if !library.is_file() {
@@ -19,6 +19,6 @@ fn main() {
     println!("cargo:rustc-link-lib=static=hamutsigra");
 }
 
-fn written_by_rt() -> PathBuf {
+fn put_by_make() -> PathBuf {
     Path::new(env!("CARGO_MANIFEST_DIR")).join("../../target/staticlib")
 }

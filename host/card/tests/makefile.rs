@@ -11,17 +11,18 @@ use std::process::Command;
 use std::time::{Duration, SystemTime};
 
 const KIT: &str = "#!/bin/sh
-echo \"$@\" >> calls
-mkdir -p target/staticlib
-echo library > target/staticlib/libhamutsigra.a
+echo \"$@\" >> \"${0%/*}/calls\"
+mkdir -p out
+echo library > out/libhamutsigra.a
 ";
 
 const CRATES: &str = include_str!("../../../crates.txt");
 
-/// Each crate, and what it needs.
+/// Each crate, and what it needs. A static library has its kind after its name.
 fn crates() -> Vec<(&'static str, Vec<&'static str>)> {
     let lines = CRATES.lines().filter_map(|line| line.split('#').next()?.split_once(':'));
-    lines.map(|(name, needs)| (name.trim(), needs.split_whitespace().collect())).collect()
+    let name = |words: &'static str| words.split_whitespace().next().expect("a name");
+    lines.map(|(words, needs)| (name(words), needs.split_whitespace().collect())).collect()
 }
 
 /// A folder with the Makefile, a source for each crate, and the kit, all a minute old.
