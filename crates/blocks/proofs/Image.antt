@@ -29,7 +29,7 @@ use Rattle.laws.proofs.Below.{all_below-same, list_below_ext}
 use Rattle.laws.proofs.Records.{blocks_of_at, blocks_of_outside, pages_of_at, block_at_bad, block_at_good}
 use Rattle.blocks.specs.Leading.{blank_from, start_of, Begins, is_next, InOrder, Leads}
 use Rattle.blocks.specs.Scanned.{Scanned, use_at, uses_of}
-use Rattle.blocks.proofs.Leading.{blank_past, past_blank, leading-alone, leading_ill, start_begins, Begun, begun_first, begun_order}
+use Rattle.blocks.proofs.Leading.{blank_past, past_blank, leading_alone, leading_ill, start_begins, Begun, begun_first, begun_order}
 
 -- ---- a block
 
@@ -40,14 +40,14 @@ module _ (s : Shape) (bytes spare : List ℕ) (b : ℕ) where
   -- its leading pages x; r says whether no page comes after them
   module _ {x : Block} (d : Leads s (pages_of s (image_of bytes spare) b) x) {r : Bool} (told : r ≡ blank_from s (pages_of s (image_of bytes spare) b) x.filled)
       (good : is_bad s (image_of bytes spare) b ≡ false) where
-    as-good : good_block s (pages_of s (image_of bytes spare) b) ≡ block_at s (image_of bytes spare) b
-    as-good = sym (block_at_good s (image_of bytes spare) b (false_is (is_bad s (image_of bytes spare) b) good))
+    as_good : good_block s (pages_of s (image_of bytes spare) b) ≡ block_at s (image_of bytes spare) b
+    as_good = sym (block_at_good s (image_of bytes spare) b (false_is (is_bad s (image_of bytes spare) b) good))
 
-    pub block-leading : r ≡ true → x ≡ block_at s (image_of bytes spare) b
-    block-leading e = leading-alone s (pages_of s (image_of bytes spare) b) d (true_is _ (sym told ∙ e)) ∙ as-good
+    pub block_leading : r ≡ true → x ≡ block_at s (image_of bytes spare) b
+    block_leading e = leading_alone s (pages_of s (image_of bytes spare) b) d (true_is _ (sym told ∙ e)) ∙ as_good
 
-    pub block-ill : r ≡ false → not_used Ill ≡ block_at s (image_of bytes spare) b
-    block-ill e = leading_ill s (pages_of s (image_of bytes spare) b) d (false_is _ (sym told ∙ e)) ∙ as-good
+    pub block_ill : r ≡ false → not_used Ill ≡ block_at s (image_of bytes spare) b
+    block_ill e = leading_ill s (pages_of s (image_of bytes spare) b) d (false_is _ (sym told ∙ e)) ∙ as_good
 
 -- what the first page of a block gives
 pub first_page : (s : Shape) (im : Image) (b : ℕ) {p : ℕ} {q : Page} {x : Block} → 0 < s.pages → p ≡ page_no s b 0 → q ≡ page_at im p → x ≡ start_of s q

@@ -71,51 +71,51 @@ module _ (s : Shape) (g : Pages) {x : Block} (d : Leads s g x) where
   programmed i h = (fits_each s g i (d.fit i h)).0
 
   module _ (blank : T (blank_from s g x.filled)) where
-    erased-past : (i : ℕ) → x.filled ≤ i → i < s.pages → T (is_erased (g i))
-    erased-past = blank_past s g x.filled blank
+    erased_past : (i : ℕ) → x.filled ≤ i → i < s.pages → T (is_erased (g i))
+    erased_past = blank_past s g x.filled blank
 
     -- a rule that a fitting page passes, and an erased one
-    each-page : (rule : Rule) → ((i : ℕ) → i < x.filled → T (rule s g i)) → ((i : ℕ) → T (is_erased (g i)) → T (rule s g i)) → T (all rule)
-    each-page rule f e =
+    each_page : (rule : Rule) → ((i : ℕ) → i < x.filled → T (rule s g i)) → ((i : ℕ) → T (is_erased (g i)) → T (rule s g i)) → T (all rule)
+    each_page rule f e =
         all_below_all s.pages (rule s g) (λ i h. elim (lt_or_le i x.filled) [
           | inl k ↦ f i k
-          | inr k ↦ e i (erased-past i k h)
+          | inr k ↦ e i (erased_past i k h)
         ])
 
-    all-rules : T (W1to4 s g)
+    all_rules : T (W1to4 s g)
     unfolding W1to4 W1 W2 W3 W4
-    all-rules =
+    all_rules =
         each_chain (all W1) (all W2 ∷ all W3 ∷ all W4 ∷ [])
-        (each-page W1 (λ i h. or_r (is_erased (g i)) _ (all_below_all i (λ j. not (is_erased (g j))) (λ j k. not_T (is_erased (g j)) (programmed j (omega arith)))))
+        (each_page W1 (λ i h. or_r (is_erased (g i)) _ (all_below_all i (λ j. not (is_erased (g j))) (λ j k. not_T (is_erased (g j)) (programmed j (omega arith)))))
         (λ i e. or_l (is_erased (g i)) _ e)) (
-          each-page W2 (λ i h. (fits_each s g i (d.fit i h)).1) (λ i e. or_l (is_erased (g i)) _ e),
+          each_page W2 (λ i h. (fits_each s g i (d.fit i h)).1) (λ i e. or_l (is_erased (g i)) _ e),
           (
-            each-page W3 (λ i h. (fits_each s g i (d.fit i h)).2) (λ i e. or_l (is_erased (g i)) _ e),
-            (each-page W4 (λ i h. (fits_each s g i (d.fit i h)).3) (λ i e. or_l (is_erased (g i) || no_copy) (eqb (offset_of s (address_of (g i))) i) (or_l (is_erased (g i)) no_copy e)), tt),
+            each_page W3 (λ i h. (fits_each s g i (d.fit i h)).2) (λ i e. or_l (is_erased (g i)) _ e),
+            (each_page W4 (λ i h. (fits_each s g i (d.fit i h)).3) (λ i e. or_l (is_erased (g i) || no_copy) (eqb (offset_of s (address_of (g i))) i) (or_l (is_erased (g i)) no_copy e)), tt),
           ),
         )
       where
         no_copy : Bool
         no_copy = not (eqb (kind_of (naming g)) copy_kind)
 
-    filled-are : filled_in s g ≡ x.filled
-    filled-are =
+    filled_are : filled_in s g ≡ x.filled
+    filled_are =
         count_below_prefix (λ i. not (is_erased (g i))) s.pages x.filled d.few (λ i h. not_T (is_erased (g i)) (programmed i h))
-        (λ i h k t. T_not (is_erased (g i)) t (erased-past i h k))
+        (λ i h k t. T_not (is_erased (g i)) t (erased_past i h k))
 
-    none-leads : x.filled ≡ 0 → x ≡ good_block s g
-    none-leads z =
-        d.is ∙ rw (eq-eqb x.filled 0 z) (sym (free_good_block s g (λ i h. is_erased_is (g i) (erased-past i (omega arith) h))))
+    none_leads : x.filled ≡ 0 → x ≡ good_block s g
+    none_leads z =
+        d.is ∙ rw (eq-eqb x.filled 0 z) (sym (free_good_block s g (λ i h. is_erased_is (g i) (erased_past i (omega arith) h))))
 
-    some-lead : 0 < x.filled → x ≡ good_block s g
+    some_lead : 0 < x.filled → x ≡ good_block s g
     unfolding good_block
-    some-lead z =
-        d.is ∙ rw (ne_eqb x.filled 0 (λ e. omega arith)) (ap (used_to s g) (sym filled-are))
+    some_lead z =
+        d.is ∙ rw (ne_eqb x.filled 0 (λ e. omega arith)) (ap (used_to s g) (sym filled_are))
         ∙ sym (cond_no (all_erased s g) _ _ (λ t. programmed 0 z (all_below_at s.pages (λ i. is_erased (g i)) t 0 (let h = d.few in omega arith)))
-        ∙ cond_yes (W1to4 s g) _ _ all-rules)
+        ∙ cond_yes (W1to4 s g) _ _ all_rules)
 
-    pub leading-alone : x ≡ good_block s g
-    leading-alone = elim (lt_or_le 0 x.filled) [ inl h ↦ some-lead h | inr h ↦ none-leads (omega arith) ]
+    pub leading_alone : x ≡ good_block s g
+    leading_alone = elim (lt_or_le 0 x.filled) [ inl h ↦ some_lead h | inr h ↦ none_leads (omega arith) ]
 
   -- Where a programmed page comes later, the block breaks a rule: the page after the leading ones is programmed (W1), and does not fit.
   pub leading_ill : (T (blank_from s g x.filled) → ⊥) → not_used Ill ≡ good_block s g

@@ -39,17 +39,17 @@ module _ (s : Shape) (im : Image) (c : Blocks) where
   -- ---- the pages
 
   module _ (x : Renewal) (d : List ℕ) where
-    pub page-ran : (o : ℕ) {p : ℕ} {page bytes spare : List ℕ} {t r : Budget} → p ≡ page_no s x.into o → page ≡ pages_for s im c x.logical d o
+    pub page_ran : (o : ℕ) {p : ℕ} {page bytes spare : List ℕ} {t r : Budget} → p ≡ page_no s x.into o → page ≡ pages_for s im c x.logical d o
         → Ran s (entry_step p (x.highest + 1) copy_kind (logical_page s x.logical o) page ∷ []) (progress im t) bytes spare r
         → Ran s (copy_to s im c x d o ∷ []) (progress im t) bytes spare r
-    page-ran o e g h = rw (← e, ← g) h
+    page_ran o e g h = rw (← e, ← g) h
 
     -- One turn of the loop: the page is filled from the image of that moment.
-    pub copies-turn : (o : ℕ) {t u r : Budget} {bytes spare bytes' spare' : List ℕ} → o < s.pages → Kept s im c x d
+    pub copies_turn : (o : ℕ) {t u r : Budget} {bytes spare bytes' spare' : List ℕ} → o < s.pages → Kept s im c x d
         → Ran s (copies_to s im c x d o) (progress im t) bytes spare u
         → Ran s (copy_to s (image_of bytes spare) c x d o ∷ []) (progress (image_of bytes spare) u) bytes' spare' r
         → Ran s (copies_to s im c x d (o + 1)) (progress im t) bytes' spare' r
-    copies-turn o {t} {u} {r} {bytes} {spare} h k past now = ran_same list (ran_then past now)
+    copies_turn o {t} {u} {r} {bytes} {spare} h k past now = ran_same list (ran_then past now)
       where
         page : List ℕ → Step
         page v = entry_step (page_no s x.into o) (x.highest + 1) copy_kind (logical_page s x.logical o) v
@@ -68,11 +68,11 @@ module _ (s : Shape) (im : Image) (c : Blocks) where
 
     -- ---- then the erases
 
-    pub renew-ran : {b₁ s₁ b₂ s₂ b₃ s₃ : List ℕ} {t t₁ t₂ t₃ : Budget} → Ran s (copies_to s im c x d s.pages) (progress im t) b₁ s₁ t₁
+    pub renew_ran : {b₁ s₁ b₂ s₂ b₃ s₃ : List ℕ} {t t₁ t₂ t₃ : Budget} → Ran s (copies_to s im c x d s.pages) (progress im t) b₁ s₁ t₁
         → Ran s (map erase (if_any x.log)) (progress (image_of b₁ s₁) t₁) b₂ s₂ t₂
         → Ran s (map erase (if_any x.«data»)) (progress (image_of b₂ s₂) t₂) b₃ s₃ t₃ → Ran s (renewal_steps s im c x d) (progress im t) b₃ s₃ t₃
     unfolding renewal_steps
-    renew-ran f g h = ran_then f (ran_same (sym (map-append erase (if_any x.log) (if_any x.«data»))) (ran_then g h))
+    renew_ran f g h = ran_then f (ran_same (sym (map-append erase (if_any x.log) (if_any x.«data»))) (ran_then g h))
 
 pub erase_if_found : (b : ℕ) → erase_if (not (eqb b none)) b ≡ map erase (if_any b)
 erase_if_found b = go (eqb b none)

@@ -29,7 +29,7 @@ use Rattle.laws.proofs.Steps.{next_step, used_numbers}
 use Rattle.laws.proofs.Erasing.{Sound, logical_few}
 use Rattle.laws.proofs.Merged.{free_record, moment_content, merged, merged_fits, merged_taken, merged_number, merged_next}
 use Rattle.laws.proofs.Completed.{next_completes, first_incomplete}
-use Rattle.laws.proofs.Cases.{MergeFirst, Cases, has_room, has-none, must-merge, write_cases, merge_logical}
+use Rattle.laws.proofs.Cases.{MergeFirst, Cases, has_room, has_none, must_merge, write_cases, merge_logical}
 use Rattle.roles.specs.Passes.{BlockOrNone}
 use Rattle.roles.proofs.Seating.{data_block_in, live_log_in}
 use Rattle.plans.specs.declared.plan.Plan.{Plan}
@@ -163,13 +163,13 @@ module _ (s : Shape) (im : Image) (w : Sound s im) (rec : Recovered s (blocks_of
     joins : Joins s (cs v) (cs v).number log_kind a
     joins = record { own = inr (used, refl, (live_e s cs v live).log, own); room = h; in_range = ha; offset = λ e. absurd (log_not_copy e) }
 
-    former-found : (t : Bool) → BlockOrNone s (cond t (data_block s cs l) none)
-    former-found true = data_found l
-    former-found false = inr refl
+    former_found : (t : Bool) → BlockOrNone s (cond t (data_block s cs l) none)
+    former_found true = data_found l
+    former_found false = inr refl
 
-    room-right : Right room
+    room_right : Right room
     unfolding planned first_steps steps_done own_list own_step erase_after
-    room-right =
+    room_right =
         let bounds = used_numbers s im w.fits v used in
         let whole : is_complete s (block_at s (step_done s (next_step s im v (cs v).number log_kind a d) im) v) ≡ completes s (cs v) a =
         next_completes s im w.fits v (cs v).number log_kind a d (writable (cs v).number bounds.0 bounds.1) joins long some in
@@ -177,7 +177,7 @@ module _ (s : Shape) (im : Image) (w : Sound s im) (rec : Recovered s (blocks_of
           record {
             renewable = λ e. absurd (omega arith);
             kept = λ e. absurd (omega arith);
-            former_in = former-found (completes s (cs v) a);
+            former_in = former_found (completes s (cs v) a);
             block_below = below;
             place_below = h;
             number_high = omega (arith, bounds.1);
@@ -222,9 +222,9 @@ module _ (s : Shape) (im : Image) (w : Sound s im) (rec : Recovered s (blocks_of
       )
 
   right : {k : Case} → Cases s im w l k → highest s cs + numbers_needed k ≤ number_limit → Right k
-  right (has_room t e h) q = room-right t e h
-  right (has-none n h) q = fresh_right q
-  right (must-merge m first) q = merge_right m first q
+  right (has_room t e h) q = room_right t e h
+  right (has_none n h) q = fresh_right q
+  right (must_merge m first) q = merge_right m first q
 
 -- ---- all of it
 

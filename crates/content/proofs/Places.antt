@@ -43,12 +43,12 @@ module _ (s : Shape) (spare : List ℕ) (b o : ℕ) where
 
   module _ {n i at : ℕ} (e : newest s (image_of [] spare) b o n ≡ newest s (image_of [] spare) b o i) where
     -- n for none
-    pub newest-none : i ≡ 0 → at ≡ n → page_if s b at n ≡ newest s (image_of [] spare) b o n
+    pub newest_none : i ≡ 0 → at ≡ n → page_if s b at n ≡ newest s (image_of [] spare) b o n
     unfolding newest
-    newest-none z q = rw (le-ltb at n (omega arith)) (sym (e ∙ ap (newest s (image_of [] spare) b o) z))
+    newest_none z q = rw (le-ltb at n (omega arith)) (sym (e ∙ ap (newest s (image_of [] spare) b o) z))
 
-    pub newest-found : 0 < i → i ≤ n → at ≡ i - 1 → offset_in s spare b (i - 1) ≡ o → page_if s b at n ≡ newest s (image_of [] spare) b o n
-    newest-found h k q f = rw (lt-ltb at n (omega arith), q) (sym (e ∙ step i h ∙ rw (eq-eqb (offset_in s spare b (i - 1)) o f) refl))
+    pub newest_found : 0 < i → i ≤ n → at ≡ i - 1 → offset_in s spare b (i - 1) ≡ o → page_if s b at n ≡ newest s (image_of [] spare) b o n
+    newest_found h k q f = rw (lt-ltb at n (omega arith), q) (sym (e ∙ step i h ∙ rw (eq-eqb (offset_in s spare b (i - 1)) o f) refl))
 
 -- ---- the scan over the blocks
 

@@ -45,21 +45,21 @@ module _ (s : Shape) (im : Image) where
       }
 
   module _ (w : Sound s im) where
-    pub sound-1 : T (outside_limits s im) → ⊥
-    sound-1 t =
+    pub sound_1 : T (outside_limits s im) → ⊥
+    sound_1 t =
         T_not (within_limits s (length im.bytes) (length im.spare)) t (within_within_limits s (length im.bytes) (length im.spare) w.fits)
 
-    pub sound-4 : T (too_few_good s c) → ⊥
-    sound-4 = nlt→ltb (good_blocks s c) (good_needed s) w.enough
+    pub sound_4 : T (too_few_good s c) → ⊥
+    sound_4 = nlt→ltb (good_blocks s c) (good_needed s) w.enough
 
-    pub sound-5 : T (well_formed s c)
-    sound-5 = well_formed_i s c w.wf.records w.wf
+    pub sound_5 : T (well_formed s c)
+    sound_5 = well_formed_i s c w.wf.records w.wf
 
-    not-5 : T (not (well_formed s c)) → ⊥
-    not-5 t = T_not (well_formed s c) t sound-5
+    not_5 : T (not (well_formed s c)) → ⊥
+    not_5 t = T_not (well_formed s c) t sound_5
 
   pub card_of : Sound s im → Recovered s c → RecoveredCard s im
-  card_of w rec = record { not1 = sound-1 w; not4 = sound-4 w; not5 = sound-5 w; not6 = recovered_i s c rec }
+  card_of w rec = record { not1 = sound_1 w; not4 = sound_4 w; not5 = sound_5 w; not6 = recovered_i s c rec }
 
   pub of_card : RecoveredCard s im → Sound s im × Recovered s c
   of_card r = let w = sound_of r.not1 r.not4 r.not5 in (w, recovered_e s c w.wf.records r.not6)
@@ -132,14 +132,14 @@ module _ (s : Shape) (im : Image) (w : Sound s im) (Q : ℕ → Type 0) where
   pub power_up_refusal_lem : (size : ℕ) → (T (not (eqb size (2 * s.logical))) → Q 2) → Q 0 → Q (power_up_refusal s im (blocks_of s im) size)
   unfolding power_up_refusal
   power_up_refusal_lem size q2 q0 =
-      first_by Q (power_up_tests s im k size) ((λ t. absurd (sound-1 s im w t)), (q2, ((λ t. absurd (sound-4 s im w t)), ((λ t. absurd (not-5 s im w t)), tt)))) q0
+      first_by Q (power_up_tests s im k size) ((λ t. absurd (sound_1 s im w t)), (q2, ((λ t. absurd (sound_4 s im w t)), ((λ t. absurd (not_5 s im w t)), tt)))) q0
 
   pub read_refusal_lem : (size a : ℕ) → (T (not (eqb size 512)) → Q 2) → (T (not (in_range s a)) → Q 3) → Q 0
       → Q (read_refusal s im (blocks_of s im) size a)
   unfolding read_refusal
   read_refusal_lem size a q2 q3 q0 =
       first_by Q (read_tests s im k size a)
-      ((λ t. absurd (sound-1 s im w t)), (q2, (q3, ((λ t. absurd (sound-4 s im w t)), ((λ t. absurd (not-5 s im w t)), tt))))) q0
+      ((λ t. absurd (sound_1 s im w t)), (q2, (q3, ((λ t. absurd (sound_4 s im w t)), ((λ t. absurd (not_5 s im w t)), tt))))) q0
 
   -- of a write or block write
   pub writing_refusal : (size want : ℕ) (place : Bool) (needed : ℕ) → (T (not (eqb size want)) → Q 2) → (T (not place) → Q 3)
@@ -149,7 +149,7 @@ module _ (s : Shape) (im : Image) (w : Sound s im) (Q : ℕ → Type 0) where
       → Q (first_refusal (writing_tests s im (blocks_of s im) (eqb size want) place needed))
   writing_refusal size want place needed q2 q3 q6 q7 q0 =
       first_by Q (writing_tests s im (blocks_of s im) (eqb size want) place needed)
-      ((λ t. absurd (sound-1 s im w t)), (q2, (q3, ((λ t. absurd (sound-4 s im w t)), ((λ t. absurd (not-5 s im w t)), (q6, ((λ t. q7), tt))))))) q0
+      ((λ t. absurd (sound_1 s im w t)), (q2, (q3, ((λ t. absurd (sound_4 s im w t)), ((λ t. absurd (not_5 s im w t)), (q6, ((λ t. q7), tt))))))) q0
 
 -- ---- replies
 

@@ -26,11 +26,11 @@ use Rattle.laws.proofs.Erasing.{Sound, content_of, SamePlaces}
 use Rattle.laws.proofs.Renewal.{renewal_programs, renewal_erases}
 use Rattle.laws.proofs.Cases.{write_cases}
 use Rattle.history.proofs.Cost.{log_pages_none}
-use Rattle.history.proofs.Plan.{plan-end, plan-erases}
-use Rattle.history.proofs.Prepare.{none_in, pre-goal}
+use Rattle.history.proofs.Plan.{plan_end, plan_erases}
+use Rattle.history.proofs.Prepare.{none_in, pre_goal}
 use Rattle.history.proofs.Write.{the_case, pre_image, write_is, write_programs}
 use Rattle.history.proofs.BlockWrite.{block_write_is, block_write_ok}
-use Rattle.history.proofs.Answers.{counts_told, sound-5, card_of, of_card, write_taken, block_write_taken, read_taken, power_up_taken, power_up_refusal_lem, read_refusal_lem, writing_refusal, done_number, answered_0}
+use Rattle.history.proofs.Answers.{counts_told, sound_5, card_of, of_card, write_taken, block_write_taken, read_taken, power_up_taken, power_up_refusal_lem, read_refusal_lem, writing_refusal, done_number, answered_0}
 use Rattle.history.proofs.Outcome.{power_up_cut, power_up_end, taken_plan, outcome}
 use Rattle.history.proofs.Format.{JustFormatted, format_done}
 use Rattle.history.proofs.Programs.{find_erased, never_twice_lem, steps_bad, bad_alone}
@@ -188,7 +188,7 @@ stays_well_formed h =
     by_shape h
     (λ z im es. T (well_formed z (blocks_of z im))
     × ((x : Command) → (number (reply_to z im x).answer ≢ 1) × (number (reply_to z im x).answer ≢ 4) × (number (reply_to z im x).answer ≢ 5)))
-    (sound-5 (s h) (im h) (sound h), never_1_4_5 (s h) (im h) (sound h))
+    (sound_5 (s h) (im h) (sound h), never_1_4_5 (s h) (im h) (sound h))
 
 -- ---- demand 3
 
@@ -225,7 +225,7 @@ few_logical_blocks h S few =
 pub short_lists : ShortLists
 short_lists s im a d e = (
   write_programs s im a d,
-  rw (write_is s im a d) (plan-erases s im (taken_plan s im a d (write_taken s im (length d) a e))),
+  rw (write_is s im a d) (plan_erases s im (taken_plan s im a d (write_taken s im (length d) a e))),
 )
 
 pub block_write_lists : BlockWriteLists
@@ -277,13 +277,13 @@ pub write_leaves_recovered : WriteLeavesRecovered
 unfolding write_reply
 write_leaves_recovered s im a d cut =
     leaves s im (write_refusal s im (blocks_of s im) (length d) a) cut (write_list s im (blocks_of s im) a d)
-    (λ e. rw (write_is s im a d) (plan-end s im (taken_plan s im a d (write_taken s im (length d) a e))))
+    (λ e. rw (write_is s im a d) (plan_end s im (taken_plan s im a d (write_taken s im (length d) a e))))
 
 pub block_write_leaves_recovered : BlockWriteLeavesRecovered
 unfolding block_write_reply
 block_write_leaves_recovered s im l d cut =
     leaves s im (block_write_refusal s im (blocks_of s im) (length d) l) cut (block_write_list s (blocks_of s im) l d)
-    (λ e. let t = block_write_taken s im (length d) l e in rw (block_write_is s im l d t) (plan-end s im (block_write_ok s im l d {Any = ⊥} t)))
+    (λ e. let t = block_write_taken s im (length d) l e in rw (block_write_is s im l d t) (plan_end s im (block_write_ok s im l d {Any = ⊥} t)))
 
 table_same : (s : Shape) (c c' : Blocks) → SamePlaces s c c' → (n : ℕ) → table_of s c n ≡ table_of s c' n
 unfolding table_of
@@ -310,5 +310,5 @@ there_is_a_free_block s im r = let w = of_card s im r in (taken_free s (blocks_o
 pub a_free_block_after_the_merge : AFreeBlockAfterTheMerge
 a_free_block_after_the_merge s im a d e =
     let t = write_taken s im (length d) a e in
-    let r = (pre-goal s im t.sound (block_of s a) t.clean (the_case s im a d) (write_cases s im t.sound (block_of s a)) t.fit).1 in
+    let r = (pre_goal s im t.sound (block_of s a) t.clean (the_case s im a d) (write_cases s im t.sound (block_of s a)) t.fit).1 in
     (taken_free s (blocks_of s (pre_image s im a d)) r.before.sound.wf r.clean r.before.sound.enough).0

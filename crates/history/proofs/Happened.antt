@@ -35,14 +35,14 @@ behind_own done pre own post cut no_own own_is =
       | inl q ↦
           ap (λ (n : ℕ). eqb n 0 || (eqb n 8 && done (take cut list))) q.0
           ∙ sym (lt-ltb (length pre) cut (omega (arith, q.1, length-append pre (own ∷ post))))
-      | inr q ↦ ap (λ (n : ℕ). eqb n 0 || (eqb n 8 && done (take cut list))) q.0 ∙ own-done
+      | inr q ↦ ap (λ (n : ℕ). eqb n 0 || (eqb n 8 && done (take cut list))) q.0 ∙ own_done_lem
     ]
   where
     list : List Step
     list = pre ++ (own ∷ post)
 
-    own-done : done (take cut list) ≡ ltb (length pre) cut
-    own-done =
+    own_done_lem : done (take cut list) ≡ ltb (length pre) cut
+    own_done_lem =
         elim (lt_or_le (length pre) cut) [
           | inl h ↦
               let e : cut ≡ length pre + suc (cut - suc (length pre)) = omega arith in

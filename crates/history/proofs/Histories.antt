@@ -131,8 +131,8 @@ module _ (s : Shape) (S : ℕ → Bool) (few : count_below s.logical S ≤ s.log
       weight : ℕ → ℕ
       weight m = bit (S m) - bit (eqb m l)
 
-      none-of-l : NoLive s c l
-      none-of-l j u q =
+      none_of_l : NoLive s c l
+      none_of_l j u q =
           elim (live_log_found s c w.wf.records l) [
             | inl r ↦ below_none s c w.wf.records (used_below s c w.wf.records (live_log s c l) (live_used s c (live_log s c l) r.passes))
                 y.0
@@ -142,7 +142,7 @@ module _ (s : Shape) (S : ℕ → Bool) (few : count_below s.logical S ≤ s.log
       heavy : (j : ℕ) → j < s.blocks → T (is_live s c j) → 0 < weight (c j).logical
       heavy j h u =
           elim (tcase (S (c j).logical)) [
-            | inl z ↦ omega (arith, bit_one (S (c j).logical) z, bit_zero (eqb (c j).logical l) (λ q. none-of-l j u (eqb→eq (c j).logical l q)))
+            | inl z ↦ omega (arith, bit_one (S (c j).logical) z, bit_zero (eqb (c j).logical l) (λ q. none_of_l j u (eqb→eq (c j).logical l q)))
             | inr z ↦ absurd (v (c j).logical (T_not (S (c j).logical) z) j u refl)
           ]
 

@@ -27,7 +27,7 @@ use Rattle.laws.proofs.Erasing.{Sound, logical_few, content_of, obsoletes, Erasi
 use Rattle.laws.proofs.Renewal.{renewed}
 use Rattle.laws.proofs.Cases.{Victim}
 use Rattle.history.proofs.Cost.{log_pages, log_pages_is}
-use Rattle.history.proofs.Plan.{Memory, Mid, PlanOk, written, plan-before, plan_after, plan-allowed}
+use Rattle.history.proofs.Plan.{Memory, Mid, PlanOk, written, plan_before, plan_after, plan_allowed}
 use Rattle.history.proofs.Prepare.{none_in}
 use Rattle.history.proofs.Write.{pre_steps, own, post_erases, write_is, write_ok}
 use Rattle.history.proofs.BlockWrite.{block_write_is, block_write_ok}
@@ -166,15 +166,15 @@ module _ (s : Shape) (im : Image) (x : Command) (cut : ℕ) {pre : List Step} {o
   -- from the state of the plan
   module _ (M : Memory) (Open : ℕ → Type 0) (h k : ℕ)
       (m : Mid s im M Open (Victim s im (block_written s x)) h k (erases (take cut ts)) (steps_done s (take cut ts) im)) where
-    from-mid : h ≤ worth s.pages x → k ≤ bit (was_cut (event s im x r)) → ((l : ℕ) → l ≢ block_written s x → Open l → ⊥) → (b : Bool)
+    from_mid : h ≤ worth s.pages x → k ≤ bit (was_cut (event s im x r)) → ((l : ℕ) → l ≢ block_written s x → Open l → ⊥) → (b : Bool)
         → ltb (length pre) cut ≡ b
         → ((y : ℕ) → M y ≡ cond b (p.new y) (content_of s im y)) → Outcome s im x r
-    from-mid hh hk no-open b e same =
+    from_mid hh hk no-open b e same =
         let none' : obsoletes s im ≡ 0 = none_in s im p.clean in
         record {
           sound = m.sound;
           holds = λ y. m.holds y ∙ same y ∙ sym (p.reads y ∙ ap (λ (t : Bool). cond t (p.new y) (content_of s im y)) e);
-          allowed = allowed_take s cut ts im (plan-allowed s im p.plan);
+          allowed = allowed_take s cut ts im (plan_allowed s im p.plan);
           no_live = λ l n f. m.no_live l (no-open l (n taken_on)) f;
           paid = elim m.cost [
             | inl q ↦ inl (omega (arith, q.0, counted), omega (arith, q.1, none'))
@@ -191,10 +191,10 @@ module _ (s : Shape) (im : Image) (x : Command) (cut : ℕ) {pre : List Step} {o
   plan_outcome =
       elim (lt_or_le (length pre) cut) [
         | inl h ↦
-            from-mid p.new (λ l. l ≡ block_written s x) (worth s.pages x) 0 (plan_after s im p.plan cut h) (omega arith) (omega arith) (λ l n e. n e)
+            from_mid p.new (λ l. l ≡ block_written s x) (worth s.pages x) 0 (plan_after s im p.plan cut h) (omega arith) (omega arith) (λ l n e. n e)
             true (lt-ltb (length pre) cut h) (λ y. refl)
         | inr h ↦
-            from-mid (content_of s im) (λ l. ⊥) 0 1 (plan-before s im p.plan cut h) (omega arith) (omega (arith, cut_short h)) (λ l n e. e)
+            from_mid (content_of s im) (λ l. ⊥) 0 1 (plan_before s im p.plan cut h) (omega arith) (omega (arith, cut_short h)) (λ l n e. e)
             false (le-ltb (length pre) cut h) (λ y. refl)
       ]
 

@@ -23,7 +23,7 @@ use Rattle.laws.proofs.Shape.{logical_page_of, offset_of_below, in_range_block, 
 use Rattle.laws.proofs.Blocks.{one_more, Writable, Joins}
 use Rattle.laws.proofs.Roles.{free_good, free_not_used, good_below, used_below, below_none, none_filled, complete_e, data_e, data_used, live_e, live_used, data_not_live, obsolete_e, data_number_below, WellFormed, has_some, data_block_found, data_block_is, live_log_is, live_log_none, Recovered, highest_ge}
 use Rattle.laws.proofs.Change.{changed, changed_same, changed_other, Fitting, NoLive, LiveIs, good_blocks_kept, data_block_kept, below_obsolete, Completed, complete, complete_obsolete, LogGrown, append, begin}
-use Rattle.laws.proofs.Content.{offset_at, content-append, content-fill}
+use Rattle.laws.proofs.Content.{offset_at, content-append, content_fill}
 use Rattle.laws.proofs.Along.{Along}
 use Rattle.laws.proofs.Steps.{next_step, Programmed, program_done, used_numbers, ordered_offsets}
 use Rattle.laws.proofs.Erasing.{Sound, logical_few, content_of, content_kept, obsoletes, Erasing, erasing_start, erasing}
@@ -245,8 +245,8 @@ module _ (s : Shape) (im : Image) {a : ℕ} {d : List ℕ} {b n : ℕ} (r : Read
               | inr p ↦ omega (arith, most, ap (λ (z : Block). z.filled) (w.wf.records.free b p.0))
             ]
 
-    pub own-appends : Appends s im a d (step_done s (next_step s im b n log_kind a d) im)
-    own-appends =
+    pub own_appends : Appends s im a d (step_done s (next_step s im b n log_kind a d) im)
+    own_appends =
         record {
           sound = sound_with made.wf;
           clean = rw done.blocks (λ j t. r.clean j (made.obsolete j t));
@@ -258,8 +258,8 @@ module _ (s : Shape) (im : Image) {a : ℕ} {d : List ℕ} {b n : ℕ} (r : Read
   -- ---- b becomes complete, and the data block of l: the former one goes
 
   module _ (full : T (is_complete s x)) where
-    was-live : T (is_live s c b) × ((c b).logical ≡ l) × ((c b).number ≡ n)
-    was-live =
+    was_live_lem : T (is_live s c b) × ((c b).logical ≡ l) × ((c b).number ≡ n)
+    was_live_lem =
         elim r.place [
           | inl p ↦ p
           | inr p ↦
@@ -277,10 +277,10 @@ module _ (s : Shape) (im : Image) {a : ℕ} {d : List ℕ} {b n : ℕ} (r : Read
     made' : Completed s c b x
     made' =
         complete s c b x w.wf x_allowed full not_data above
-        (λ j ne t q. absurd (ne (w.wf.one_live j b t was-live.0 (q ∙ sym was-live.1))))
+        (λ j ne t q. absurd (ne (w.wf.one_live j b t was_live_lem.0 (q ∙ sym was_live_lem.1))))
 
-    data-is' : data_block s c' l ≡ b
-    data-is' = data_block_is s c' made'.wf b l made'.is_data (ap (λ (z : Block). z.logical) (changed_same c b x))
+    data_is' : data_block s c' l ≡ b
+    data_is' = data_block_is s c' made'.wf b l made'.is_data (ap (λ (z : Block). z.logical) (changed_same c b x))
 
     log_none : (c' (live_log s c' l)).filled ≡ 0
     log_none = ap (λ (v : ℕ). (c' v).filled) (live_log_none s c' made'.wf.records l made'.no_live) ∙ none_filled s c' made'.wf.records
@@ -298,9 +298,9 @@ module _ (s : Shape) (im : Image) {a : ℕ} {d : List ℕ} {b n : ℕ} (r : Read
     fill_holds : (y : ℕ) → content_of s im' y ≡ written a d (content_of s im) y
     fill_holds =
         holds_with made'.numbers
-        (λ y e. content-fill s y (offset_of_below s w.fits.limits y) im im' c c' b f
+        (λ y e. content_fill s y (offset_of_below s w.fits.limits y) im im' c c' b f
         (subst (λ (m : ℕ). ((c (live_log s c m)).filled ≡ f) × ((live_log s c m ≡ b) ⊎ (f ≡ 0))) (sym e) before) done.earlier
-        (subst (λ (m : ℕ). (c' (live_log s c' m)).filled ≡ 0) (sym e) log_none) (ap (data_block s c') e ∙ data-is')
+        (subst (λ (m : ℕ). (c' (live_log s c' m)).filled ≡ 0) (sym e) log_none) (ap (data_block s c') e ∙ data_is')
         (below_none s c w.wf.records b_below) filled_is in_order)
 
     abbrev o : ℕ
@@ -314,7 +314,7 @@ module _ (s : Shape) (im : Image) {a : ℕ} {d : List ℕ} {b n : ℕ} (r : Read
           | inr q ↦ elim q [
             | inl y ↦ y
             | inr y ↦
-                let e : j ≡ b = y ∙ live_log_is s c w.wf b l was-live.0 was-live.1 in
+                let e : j ≡ b = y ∙ live_log_is s c w.wf b l was_live_lem.0 was_live_lem.1 in
                 absurd ((obsolete_e s c' b (subst (λ (i : ℕ). T (is_obsolete s c' i)) e t')).1 made'.is_data)
           ]
         ]
@@ -327,36 +327,36 @@ module _ (s : Shape) (im : Image) {a : ℕ} {d : List ℕ} {b n : ℕ} (r : Read
         subst (λ (k : Blocks). T (is_obsolete s k o)) (sym done.blocks)
         (below_obsolete s c' o (rw z (data_used s c o y.passes)) (rw (z, y.logical, made'.top) (omega (arith, above))))
 
-    fill-sound : Sound s im'
-    fill-sound = sound_with made'.wf
+    fill_sound : Sound s im'
+    fill_sound = sound_with made'.wf
 
     tail : Along s (Erasing s im') 0 (map erase (if_any o)) im'
         × ((j : ℕ) → T (is_obsolete s (blocks_of s (steps_done s (map erase (if_any o)) im')) j) → T (is_obsolete s (blocks_of s im') j)
         × All (λ z. j ≢ z) (if_any o))
     tail =
-        erasing s im' (if_any o) 0 im' (erasing_start s im' fill-sound) (found_all (λ z. T (is_obsolete s (blocks_of s im') z)) o former)
+        erasing s im' (if_any o) 0 im' (erasing_start s im' fill_sound) (found_all (λ z. T (is_obsolete s (blocks_of s im') z)) o former)
         (found_distinct o)
 
-    fill-clean : Recovered s (blocks_of s (steps_done s (map erase (if_any o)) im'))
-    fill-clean j t =
+    fill_clean : Recovered s (blocks_of s (steps_done s (map erase (if_any o)) im'))
+    fill_clean j t =
         let r = tail.1 j t in
         found_out o j (below_none s c w.wf.records
-        (used_below s (blocks_of s im') fill-sound.wf.records j (obsolete_e s (blocks_of s im') j r.0).0))
+        (used_below s (blocks_of s im') fill_sound.wf.records j (obsolete_e s (blocks_of s im') j r.0).0))
         r.1 (obsolete_then j r.0)
 
-    pub own-fills : Fills s im a d b (step_done s (next_step s im b n log_kind a d) im)
+    pub own_fills : Fills s im a d b (step_done s (next_step s im b n log_kind a d) im)
     unfolding obsoletes
-    own-fills =
+    own_fills =
         record {
-          sound = fill-sound;
-          was_live = was-live.0;
+          sound = fill_sound;
+          was_live = was_live_lem.0;
           along = tail.0;
-          clean = fill-clean;
+          clean = fill_clean;
           obsolete = count_below_one s.blocks o (is_obsolete s (blocks_of s im')) (λ j h. obsolete_then j);
           pages =
               rw done.blocks
               (log_pages_changed s c b x s.pages 1 b_below made'.rises
-              (omega (arith, pages_at_dead s c' b (data_not_live s c' b made'.is_data), pages_at_live s c b was-live.0, filled_is)));
+              (omega (arith, pages_at_dead s c' b (data_not_live s c' b made'.is_data), pages_at_live s c b was_live_lem.0, filled_is)));
           live = rw done.blocks made'.live;
           holds = fill_holds;
         }

@@ -101,15 +101,15 @@ module _ (s : Shape) (im : Image) where
     own_erases ts = omega (arith, erases-append (own ∷ []) ts, ok.programs)
 
     -- cut before its own program
-    pub plan-before : (k : ℕ) → k ≤ length pre → NotYet Any (erases (take k list)) (steps_done s (take k list) im)
-    plan-before k q =
+    pub plan_before : (k : ℕ) → k ≤ length pre → NotYet Any (erases (take k list)) (steps_done s (take k list) im)
+    plan_before k q =
         rw (take-append-le k pre (own ∷ map erase post) q)
         (subst (λ (n : ℕ). NotYet Any n (steps_done s (take k pre) im)) (omega arith) (along_cut s (NotYet Any) 0 pre im ok.before k))
 
     -- cut behind it
-    plan-behind : (i : ℕ) → Happened M l Any h (erases (take (length pre + suc i) list)) (steps_done s (take (length pre + suc i) list) im)
+    plan_behind : (i : ℕ) → Happened M l Any h (erases (take (length pre + suc i) list)) (steps_done s (take (length pre + suc i) list) im)
     unfolding steps_done
-    plan-behind i =
+    plan_behind i =
         rw (
           take-append-add pre (own ∷ map erase post) (suc i),
           steps_done-append s pre (own ∷ take i (map erase post)) im,
@@ -121,22 +121,22 @@ module _ (s : Shape) (im : Image) where
     pub plan_after : (k : ℕ) → length pre < k → Happened M l Any h (erases (take k list)) (steps_done s (take k list) im)
     plan_after k q =
         let e : length pre + suc (k - suc (length pre)) ≡ k = omega arith in
-        subst (λ (j : ℕ). Happened M l Any h (erases (take j list)) (steps_done s (take j list) im)) e (plan-behind (k - suc (length pre)))
+        subst (λ (j : ℕ). Happened M l Any h (erases (take j list)) (steps_done s (take j list) im)) e (plan_behind (k - suc (length pre)))
 
     -- not cut
-    pub plan-end : Sound s (steps_done s list im) × Recovered s (blocks_of s (steps_done s list im))
+    pub plan_end : Sound s (steps_done s list im) × Recovered s (blocks_of s (steps_done s list im))
     unfolding steps_done
-    plan-end =
+    plan_end =
         rw (steps_done-append s pre (own ∷ map erase post) im)
         ((along_end s (Happened M l Any h) (0 + erases pre) (map erase post) im₁ ok.after).sound, ok.ends)
 
-    pub plan-allowed : AllAllowed s list im
-    plan-allowed =
+    pub plan_allowed : AllAllowed s list im
+    plan_allowed =
         allowed_append s pre (own ∷ map erase post) im (along_allowed s (NotYet Any) 0 pre im ok.before)
         (ok.allowed, along_allowed s (Happened M l Any h) (0 + erases pre) (map erase post) im₁ ok.after)
 
     -- at most two erases
-    pub plan-erases : erases list ≤ 2
-    plan-erases =
+    pub plan_erases : erases list ≤ 2
+    plan_erases =
         let a = along_end s (Happened M l Any h) (0 + erases pre) (map erase post) im₁ ok.after in
         omega (arith, a.total, erases-append pre (own ∷ map erase post), own_erases (map erase post))

@@ -17,8 +17,8 @@ use Rattle.laws.proofs.Along.{Along}
 use Rattle.laws.proofs.Steps.{used_numbers}
 use Rattle.laws.proofs.Erasing.{Sound, content_of, obsoletes}
 use Rattle.laws.proofs.Renewal.{After}
-use Rattle.laws.proofs.Merge.{merge-along, merge-end}
-use Rattle.laws.proofs.Cases.{Victim, MergeFirst, Cases, has_room, has-none, must-merge, merge_log, merge_logical}
+use Rattle.laws.proofs.Merge.{merge_along, merge_end}
+use Rattle.laws.proofs.Cases.{Victim, MergeFirst, Cases, has_room, has_none, must_merge, merge_log, merge_logical}
 use Rattle.history.proofs.Cost.{log_pages, log_pages_drop, live_logs-drop}
 use Rattle.history.proofs.Plan.{Cost, NotYet, renewing_mid, renewing_not_yet}
 use Rattle.history.proofs.Own.{Place}
@@ -51,11 +51,11 @@ module _ (s : Shape) (im : Image) (w : Sound s im) (l : ℕ) where
     none_yet : obsoletes s im ≡ 0
     none_yet = none_in s im rec
 
-    cost-start : (k : ℕ) → Cost s im (Victim s im l) 0 k 0 im
-    cost-start k = inl (omega arith, omega (arith, none_yet))
+    cost_start : (k : ℕ) → Cost s im (Victim s im l) 0 k 0 im
+    cost_start k = inl (omega arith, omega (arith, none_yet))
 
-    pre-start : Pre 0 im
-    pre-start = record { sound = w; holds = λ a. refl; total = omega (arith, none_yet); no_live = λ m q f. f; cost = cost-start 1 }
+    pre_start : Pre 0 im
+    pre_start = record { sound = w; holds = λ a. refl; total = omega (arith, none_yet); no_live = λ m q f. f; cost = cost_start 1 }
 
     abbrev Goal : Case → Type 0
     Goal k =
@@ -65,16 +65,16 @@ module _ (s : Shape) (im : Image) (w : Sound s im) (l : ℕ) where
 
     -- a block just taken is free
     module _ (im₁ : Image) (w₁ : Sound s im₁) (clean₁ : Recovered s (blocks_of s im₁)) where
-      free-taken : T (is_free (blocks_of s im₁ (taken s (blocks_of s im₁))).state)
-      free-taken = (taken_free s (blocks_of s im₁) w₁.wf clean₁ w₁.enough).0
+      free_taken : T (is_free (blocks_of s im₁ (taken s (blocks_of s im₁))).state)
+      free_taken = (taken_free s (blocks_of s im₁) w₁.wf clean₁ w₁.enough).0
 
-      free-below : (blocks_of s im₁ (taken s (blocks_of s im₁))).filled < s.pages
-      free-below =
-          omega (arith, w₁.fits.limits.pages_low, ap (λ (z : Block). z.filled) (w₁.wf.records.free (taken s (blocks_of s im₁)) free-taken))
+      free_below : (blocks_of s im₁ (taken s (blocks_of s im₁))).filled < s.pages
+      free_below =
+          omega (arith, w₁.fits.limits.pages_low, ap (λ (z : Block). z.filled) (w₁.wf.records.free (taken s (blocks_of s im₁)) free_taken))
 
-      free-dead : T (is_live s (blocks_of s im₁) (taken s (blocks_of s im₁))) → ⊥
-      free-dead t =
-          free_not_used (blocks_of s im₁ (taken s (blocks_of s im₁))).state free-taken (live_used s (blocks_of s im₁) (taken s (blocks_of s im₁)) t)
+      free_dead : T (is_live s (blocks_of s im₁) (taken s (blocks_of s im₁))) → ⊥
+      free_dead t =
+          free_not_used (blocks_of s im₁ (taken s (blocks_of s im₁))).state free_taken (live_used s (blocks_of s im₁) (taken s (blocks_of s im₁)) t)
 
     -- ---- the merge of m
 
@@ -85,8 +85,8 @@ module _ (s : Shape) (im : Image) (w : Sound s im) (l : ℕ) where
       v_below : v < s.blocks
       v_below = merge_log s im w l q
 
-      m-below : m < s.logical
-      m-below = merge_logical s im w l q
+      m_below : m < s.logical
+      m_below = merge_logical s im w l q
 
       one : new_number s c ≤ number_limit
       one = omega arith
@@ -95,9 +95,9 @@ module _ (s : Shape) (im : Image) (w : Sound s im) (l : ℕ) where
       gone : (im' : Image) → LiveIs s c (blocks_of s im') → NoLive s (blocks_of s im') m → T (is_live s (blocks_of s im') v) → ⊥
       gone im' f none' t = none' v t (ap (λ (z : Block). z.logical) (f v t).1 ∙ q.logical)
 
-      merge-cost : (e : ℕ) (im' : Image) → After s im m (content_of s im) e im'
+      merge_cost : (e : ℕ) (im' : Image) → After s im m (content_of s im) e im'
           → ((log_pages s (blocks_of s im') + s.pages ≤ log_pages s c + 0) × (e + obsoletes s im' ≤ 2)) ⊎ Victim s im l
-      merge-cost e im' r =
+      merge_cost e im' r =
           elim q.why [
             | inl h ↦ inl (
               omega (arith, log_pages_drop s c (blocks_of s im') r.0.live v v_below q.live (gone im' r.0.live r.1)),
@@ -106,25 +106,25 @@ module _ (s : Shape) (im : Image) (w : Sound s im) (l : ℕ) where
             | inr u ↦ inr u
           ]
 
-      copied-pre : (e : ℕ) (im' : Image) → After s im m (content_of s im) e im' → Pre e im'
-      copied-pre e im' r = renewing_mid s im e im' r.0 (inr (merge-cost e im' r))
+      copied_pre : (e : ℕ) (im' : Image) → After s im m (content_of s im) e im' → Pre e im'
+      copied_pre e im' r = renewing_mid s im e im' r.0 (inr (merge_cost e im' r))
 
-      merge-goal : Goal (merging m)
-      merge-goal = (
-        merge-along s im w m rec m-below one Pre (renewing_not_yet s im) copied-pre,
+      merge_goal : Goal (merging m)
+      merge_goal = (
+        merge_along s im w m rec m_below one Pre (renewing_not_yet s im) copied_pre,
         record {
-          before = copied-pre e₁ im₁ r;
+          before = copied_pre e₁ im₁ r;
           clean = r';
-          cost₀ = inr (merge-cost e₁ im₁ r);
+          cost₀ = inr (merge_cost e₁ im₁ r);
           place = inr (
-            free-taken im₁ r.0.sound r',
-            none-of-l,
+            free_taken im₁ r.0.sound r',
+            none_of_l,
             omega (arith, live_logs-drop s c (blocks_of s im₁) r.0.live v v_below q.live (gone im₁ r.0.live r.1), w.wf.few_live),
             refl,
           );
-          below = free-below im₁ r.0.sound r';
+          below = free_below im₁ r.0.sound r';
           high = omega (arith, r.0.highest);
-          start = λ t. absurd (free-dead im₁ r.0.sound r' t);
+          start = λ t. absurd (free_dead im₁ r.0.sound r' t);
         },
       )
         where
@@ -135,41 +135,41 @@ module _ (s : Shape) (im : Image) (w : Sound s im) (l : ℕ) where
           im₁ = steps_done s (merge_list s im c m) im
 
           r : After s im m (content_of s im) e₁ im₁
-          r = (merge-end s im w m rec m-below one).0
+          r = (merge_end s im w m rec m_below one).0
 
           r' : Recovered s (blocks_of s im₁)
-          r' = (merge-end s im w m rec m-below one).1
+          r' = (merge_end s im w m rec m_below one).1
 
-          none-of-l : NoLive s (blocks_of s im₁) l
-          none-of-l j t e =
+          none_of_l : NoLive s (blocks_of s im₁) l
+          none_of_l j t e =
               let y = r.0.live j t in
               gone im₁ r.0.live r.1
               (subst (λ (i : ℕ). T (is_live s (blocks_of s im₁) i)) (q.only j y.0 (ap (λ (z : Block). z.logical) (sym y.1) ∙ e)) t)
 
-    pub pre-goal : (k : Case) → Cases s im w l k → highest s c + numbers_needed k ≤ number_limit → Goal k
+    pub pre_goal : (k : Case) → Cases s im w l k → highest s c + numbers_needed k ≤ number_limit → Goal k
     unfolding steps_done
-    pre-goal room (has_room t e h) fit = (
-      pre-start,
+    pre_goal room (has_room t e h) fit = (
+      pre_start,
       record {
-        before = pre-start;
+        before = pre_start;
         clean = rec;
-        cost₀ = cost-start 0;
+        cost₀ = cost_start 0;
         place = inl (t, e, refl);
         below = h;
         high = (used_numbers s im w.fits (live_log s c l) (live_used s c (live_log s c l) t)).1;
         start = λ u. refl;
       },
     )
-    pre-goal fresh (has-none nl h) fit = (
-      pre-start,
+    pre_goal fresh (has_none nl h) fit = (
+      pre_start,
       record {
-        before = pre-start;
+        before = pre_start;
         clean = rec;
-        cost₀ = cost-start 0;
-        place = inr (free-taken im w rec, nl, h, refl);
-        below = free-below im w rec;
+        cost₀ = cost_start 0;
+        place = inr (free_taken im w rec, nl, h, refl);
+        below = free_below im w rec;
         high = fit;
         start = λ u. refl;
       },
     )
-    pre-goal (merging k) (must-merge m q) fit = merge-goal m q fit
+    pre_goal (merging k) (must_merge m q) fit = merge_goal m q fit

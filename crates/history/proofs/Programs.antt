@@ -13,7 +13,7 @@ use Rattle.rules.specs.WellFormed.{is_bad}
 use Rattle.rules.specs.Steps.{Step, program, erase, step_done, steps_done}
 use Rattle.rules.specs.Facts.{Fits}
 use Rattle.laws.proofs.Tests.{is_false, and_l, and_r, and_i, or_e, dec_eq, eq→eqb, ne→eqb}
-use Rattle.laws.proofs.Shape.{page_no_of, page-place-below}
+use Rattle.laws.proofs.Shape.{page_no_of, page_place_below}
 use Rattle.laws.proofs.Pages.{SamePage, program_fits, program_page, program_other, erase_fits, erase_other, StepIn, step_block, step_fits, step_other}
 use Rattle.laws.proofs.Blocks.{is_bad_same, erase_good, program_good}
 use Rattle.history.specs.History.{again, never_twice, FindErased, left_alone}
@@ -47,7 +47,7 @@ not_again s (erase b ∷ ts) im w a p f t =
     let n : b ≢ p / s.pages = λ e. T_not (eqb b (p / s.pages)) (and_l (not (eqb b (p / s.pages))) (again s p ts) t) (eq→eqb b (p / s.pages) e) in
     let q : SamePage (step_done s (erase b) im) im p =
     subst (SamePage (step_done s (erase b) im) im) (page_no_of s p)
-    (erase_other s im w b a.0.below (p / s.pages) (p % s.pages) (λ e. n (sym e)) (page-place-below s w.limits p)) in
+    (erase_other s im w b a.0.below (p / s.pages) (p % s.pages) (λ e. n (sym e)) (page_place_below s w.limits p)) in
     not_again s ts (step_done s (erase b) im) (erase_fits s im w b a.0.below) a.1 p (stays im (step_done s (erase b) im) p q f)
     (and_r (not (eqb b (p / s.pages))) (again s p ts) t)
 
@@ -85,14 +85,14 @@ step_bad s x im w a b =
     elim (dec_eq b (step_block s x)) [
       | inl z ↦
           let f : T (is_bad s im b) → ⊥ = λ t. (allowed_good s x im a).1 (subst (λ (j : ℕ). T (is_bad s im j)) z t) in
-          is_false (is_bad s (step_done s x im) b) (stays-good x a z f) ∙ sym (is_false (is_bad s im b) f)
+          is_false (is_bad s (step_done s x im) b) (stays_good x a z f) ∙ sym (is_false (is_bad s im b) f)
       | inr n ↦
           is_bad_same s b w.limits.pages_low (step_done s x im) im (λ i h. step_other s im w x (allowed_good s x im a).0 b i n h)
     ]
   where
-    stays-good : (x : Step) → Allowed s x im → b ≡ step_block s x → (T (is_bad s im b) → ⊥) → T (is_bad s (step_done s x im) b) → ⊥
-    stays-good (program p d t) a z f = program_good s im w a.page a.status b f
-    stays-good (erase j) a z f = subst (λ (k : ℕ). T (is_bad s (step_done s (erase j) im) k) → ⊥) (sym z) (erase_good s im w j a.below)
+    stays_good : (x : Step) → Allowed s x im → b ≡ step_block s x → (T (is_bad s im b) → ⊥) → T (is_bad s (step_done s x im) b) → ⊥
+    stays_good (program p d t) a z f = program_good s im w a.page a.status b f
+    stays_good (erase j) a z f = subst (λ (k : ℕ). T (is_bad s (step_done s (erase j) im) k) → ⊥) (sym z) (erase_good s im w j a.below)
 
 pub steps_bad : (s : Shape) (b : ℕ) (ts : List Step) (im : Image) → Fits s im → AllAllowed s ts im → is_bad s (steps_done s ts im) b ≡ is_bad s im b
 unfolding steps_done

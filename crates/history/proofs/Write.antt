@@ -23,12 +23,12 @@ use Rattle.laws.proofs.Change.{changed_same}
 use Rattle.laws.proofs.Along.{Allowed, Along, along_map, programs-append, programs-erases}
 use Rattle.laws.proofs.Steps.{next_step, Programmed}
 use Rattle.laws.proofs.Erasing.{Sound, content_of, obsoletes, Erasing}
-use Rattle.laws.proofs.Merge.{merge-programs}
+use Rattle.laws.proofs.Merge.{merge_programs}
 use Rattle.laws.proofs.Cases.{Victim, write_cases}
 use Rattle.history.proofs.Cost.{log_pages, log_pages_is}
 use Rattle.history.proofs.Plan.{Happened, PlanOk, written, written_same}
-use Rattle.history.proofs.Own.{Ready, Appends, Fills, done, b_below, own-appends, own-fills}
-use Rattle.history.proofs.Prepare.{none_in, Prepared, pre-goal}
+use Rattle.history.proofs.Own.{Ready, Appends, Fills, done, b_below, own_appends, own_fills}
+use Rattle.history.proofs.Prepare.{none_in, Prepared, pre_goal}
 
 -- ---- its own program, from an image that is ready
 
@@ -89,7 +89,7 @@ module _ (s : Shape) (im : Image) (w : Sound s im) (rec : Recovered s (blocks_of
   own_append f = rw (x_there, is_false (is_complete s x) f) (post, p.clean, made.allowed)
     where
       p : Appends s im₁ a d im₂
-      p = own-appends s im₁ ready f
+      p = own_appends s im₁ ready f
 
       none' : obsoletes s im₂ ≡ 0
       none' = none_in s im₂ p.clean
@@ -120,7 +120,7 @@ module _ (s : Shape) (im : Image) (w : Sound s im) (rec : Recovered s (blocks_of
       )
     where
       p : Fills s im₁ a d b im₂
-      p = own-fills s im₁ ready t
+      p = own_fills s im₁ ready t
 
       post : (k : ℕ) (im' : Image) → Erasing s im₂ k im' → Post k im'
       post k im' i =
@@ -176,7 +176,7 @@ module _ (s : Shape) (im : Image) (a : ℕ) (d : List ℕ) where
       → PlanOk s im pre_steps own post_erases (written a d (content_of s im)) (block_of s a) (Victim s im (block_of s a)) 1
   unfolding own_step erase_after
   write_ok w rec long inside fit =
-      let p = pre-goal s im w (block_of s a) rec the_case (write_cases s im w (block_of s a)) fit in
+      let p = pre_goal s im w (block_of s a) rec the_case (write_cases s im w (block_of s a)) fit in
       let q = own_goal s im w rec a d long inside (0 + erases pre_steps) pre_image
       (log_block s (blocks_of s pre_image) the_case (block_of s a)) (log_number s (blocks_of s pre_image) the_case (block_of s a)) p.1 in
       record { before = p.0; after = q.0; ends = q.1; allowed = q.2; programs = refl }
@@ -186,9 +186,9 @@ module _ (s : Shape) (im : Image) (a : ℕ) (d : List ℕ) where
   unfolding own_step
   write_programs =
       rw write_is
-      (omega (arith, programs-append pre_steps (own ∷ map erase post_erases), pre-programs the_case, programs-erases post_erases))
+      (omega (arith, programs-append pre_steps (own ∷ map erase post_erases), pre_programs the_case, programs-erases post_erases))
     where
-      pre-programs : (k : Case) → programs (merge_first s im (blocks_of s im) k) ≤ s.pages
-      pre-programs room = omega arith
-      pre-programs fresh = omega arith
-      pre-programs (merging m) = omega (arith, merge-programs s im (blocks_of s im) m)
+      pre_programs : (k : Case) → programs (merge_first s im (blocks_of s im) k) ≤ s.pages
+      pre_programs room = omega arith
+      pre_programs fresh = omega arith
+      pre_programs (merging m) = omega (arith, merge_programs s im (blocks_of s im) m)

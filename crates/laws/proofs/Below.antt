@@ -358,18 +358,18 @@ lowest_below_found (suc n) p f h =
       | inr t ↦
           rw (is_false (p n) (T_not (p n) t))
           (elim (lowest_below_found n p f (omega arith)) [
-            | inl r ↦ inl (lowest-of (lowest_below n p f) (omega (arith, r.below)) r.passes r.lowest (λ u. absurd (T_not (p n) t u)))
+            | inl r ↦ inl (lowest_of (lowest_below n p f) (omega (arith, r.below)) r.passes r.lowest (λ u. absurd (T_not (p n) t u)))
             | inr r ↦ inr (record { is = r.is; fails = below_suc (λ j. T (p j) → ⊥) r.fails (T_not (p n) t) })
           ])
     ]
   where
-    lowest-of : (i : ℕ) → i < suc n → T (p i) → ((j : ℕ) → j < n → T (p j) → f i ≤ f j) → (T (p n) → f i ≤ f n) → Lowest (suc n) p f i
-    lowest-of i h t g l = record { below = h; passes = t; lowest = below_suc (λ j. T (p j) → f i ≤ f j) g l }
+    lowest_of : (i : ℕ) → i < suc n → T (p i) → ((j : ℕ) → j < n → T (p j) → f i ≤ f j) → (T (p n) → f i ≤ f n) → Lowest (suc n) p f i
+    lowest_of i h t g l = record { below = h; passes = t; lowest = below_suc (λ j. T (p j) → f i ≤ f j) g l }
 
     alone : T (p n) → NoneBelow n p (lowest_below n p f) → Lowest (suc n) p f (lower_of f (lowest_below n p f) n)
     alone t r =
         rw (is_true (is_none (lowest_below n p f)) (eq→eqb (lowest_below n p f) none r.is))
-        (lowest-of n (omega arith) t (λ j k u. absurd (r.fails j k u)) (λ u. omega arith))
+        (lowest_of n (omega arith) t (λ j k u. absurd (r.fails j k u)) (λ u. omega arith))
 
     lower : T (p n) → Lowest n p f (lowest_below n p f) → Lowest (suc n) p f (lower_of f (lowest_below n p f) n)
     lower t r =
@@ -378,10 +378,10 @@ lowest_below_found (suc n) p f h =
         (elim (tcase (ltb (f n) (f (lowest_below n p f)))) [
           | inl u ↦
               rw (is_true (ltb (f n) (f (lowest_below n p f))) u)
-              (lowest-of n (omega arith) t (λ j k v. omega (arith, ltb→lt (f n) (f (lowest_below n p f)) u, r.lowest j k v)) (λ v. omega arith))
+              (lowest_of n (omega arith) t (λ j k v. omega (arith, ltb→lt (f n) (f (lowest_below n p f)) u, r.lowest j k v)) (λ v. omega arith))
           | inr u ↦
               rw (is_false (ltb (f n) (f (lowest_below n p f))) (T_not (ltb (f n) (f (lowest_below n p f))) u))
-              (lowest-of (lowest_below n p f) (omega (arith, r.below)) r.passes r.lowest (λ v. nltb→le (f n) (f (lowest_below n p f)) u))
+              (lowest_of (lowest_below n p f) (omega (arith, r.below)) r.passes r.lowest (λ v. nltb→le (f n) (f (lowest_below n p f)) u))
         ])
 
 -- ---- lists of numbers

@@ -174,15 +174,15 @@ module _ (s : Shape) where
   erases_in_lem (b ∷ bs) h = (h.0, erases_in_lem bs h.1)
 
   module _ (j : ℕ) where
-    pub erases-apart : (bs : List ℕ) → All (λ b. j ≢ b) bs → Apart s j (map erase bs)
-    erases-apart [] ne = tt
-    erases-apart (b ∷ bs) ne = (ne.0, erases-apart bs ne.1)
+    pub erases_apart : (bs : List ℕ) → All (λ b. j ≢ b) bs → Apart s j (map erase bs)
+    erases_apart [] ne = tt
+    erases_apart (b ∷ bs) ne = (ne.0, erases_apart bs ne.1)
 
-    erases-free : (bs : List ℕ) (im : Image) → Fits s im → All (λ b. b < s.blocks) bs → block_at s im j ≡ not_used Free
+    erases_free : (bs : List ℕ) (im : Image) → Fits s im → All (λ b. b < s.blocks) bs → block_at s im j ≡ not_used Free
         → block_at s (steps_done s (map erase bs) im) j ≡ not_used Free
     unfolding steps_done
-    erases-free [] im w h e = e
-    erases-free (b ∷ bs) im w h e = erases-free bs (step_done s (erase b) im) (erase_fits s im w b h.0) h.1 (erase_free s im w b h.0 j e)
+    erases_free [] im w h e = e
+    erases_free (b ∷ bs) im w h e = erases_free bs (step_done s (erase b) im) (erase_fits s im w b h.0) h.1 (erase_free s im w b h.0 j e)
 
     pub erases-block_at : (bs : List ℕ) (im : Image) → Fits s im → All (λ b. b < s.blocks) bs → (All (λ b. j ≢ b) bs → ⊥)
         → block_at s (steps_done s (map erase bs) im) j ≡ not_used Free
@@ -192,7 +192,7 @@ module _ (s : Shape) where
         let im' : Image = step_done s (erase b) im in
         let w' : Fits s im' = erase_fits s im w b h.0 in
         elim (dec_eq j b) [
-          | inl z ↦ erases-free bs im' w' h.1 (subst (λ (i : ℕ). block_at s im' i ≡ not_used Free) (sym z) (erase_block_at s im w b h.0))
+          | inl z ↦ erases_free bs im' w' h.1 (subst (λ (i : ℕ). block_at s im' i ≡ not_used Free) (sym z) (erase_block_at s im w b h.0))
           | inr ne ↦ erases-block_at bs im' w' h.1 (λ a. among (ne, a))
         ]
 
@@ -383,47 +383,47 @@ module _ (s : Shape) (im : Image) (b i : ℕ) (h : i < s.pages) where
     used : UsedPages s (pages_of s im b) (block_at s im b)
     used = used_used_pages s im b (omega arith) t
 
-    pub used-blank : (block_at s im b).filled ≤ i → page_at im (page_no s b i) ≡ Erased
-    used-blank k = sym (pages_of_at s im b i h) ∙ used.filled.blank i k h
+    pub used_blank : (block_at s im b).filled ≤ i → page_at im (page_no s b i) ≡ Erased
+    used_blank k = sym (pages_of_at s im b i h) ∙ used.filled.blank i k h
 
     module _ (k : i < (block_at s im b).filled) where
       spare : List ℕ
       spare = page_spare im (page_no s b i)
 
-      by-record : page_at im (page_no s b i) ≡ Entry (block_at s im b).number (block_at s im b).kind (address_of (pages_of s im b i))
-      by-record = sym (pages_of_at s im b i h) ∙ used.filled.entry i k
+      by_record : page_at im (page_no s b i) ≡ Entry (block_at s im b).number (block_at s im b).kind (address_of (pages_of s im b i))
+      by_record = sym (pages_of_at s im b i h) ∙ used.filled.entry i k
 
-      by-spare : InTable spare × (page_at im (page_no s b i) ≡ Entry (number_in spare) (kind_in spare) (address_in spare))
+      by_spare : InTable spare × (page_at im (page_no s b i) ≡ Entry (number_in spare) (kind_in spare) (address_in spare))
       unfolding spare page_at
-      by-spare = page_of-is_entry (page_bytes im (page_no s b i)) spare (subst (λ (q : Page). T (is_entry q)) (sym by-record) tt)
+      by_spare = page_of-is_entry (page_bytes im (page_no s b i)) spare (subst (λ (q : Page). T (is_entry q)) (sym by_record) tt)
 
       same_address : address_of (pages_of s im b i) ≡ address_in spare
-      same_address = ap address_of (sym by-record ∙ by-spare.1)
+      same_address = ap address_of (sym by_record ∙ by_spare.1)
 
-      pub used-entry : EntryAt s im (block_at s im b) (page_no s b i) i
+      pub used_entry : EntryAt s im (block_at s im b) (page_no s b i) i
       unfolding spare
-      used-entry =
+      used_entry =
           record {
-            table = by-spare.0;
-            entry = by-record ∙ ap (Entry (block_at s im b).number (block_at s im b).kind) same_address;
-            number = ap number_of (sym by-spare.1 ∙ by-record);
-            kind = ap kind_of (sym by-spare.1 ∙ by-record);
+            table = by_spare.0;
+            entry = by_record ∙ ap (Entry (block_at s im b).number (block_at s im b).kind) same_address;
+            number = ap number_of (sym by_spare.1 ∙ by_record);
+            kind = ap kind_of (sym by_spare.1 ∙ by_record);
             in_range = subst (λ (a : ℕ). T (in_range s a)) same_address (used.filled.in_range i k);
             block = subst (λ (a : ℕ). block_of s a ≡ (block_at s im b).logical) same_address (used.filled.block i k);
             offset = λ c. subst (λ (a : ℕ). offset_of s a ≡ i) same_address (used.filled.offset c i k);
           }
 
       -- page i of an ordered block has offset i, if it is programmed
-      pub ordered-offset : T (block_at s im b).ordered → offset_of s (address_in (page_spare im (page_no s b i))) ≡ i
+      pub ordered_offset : T (block_at s im b).ordered → offset_of s (address_in (page_spare im (page_no s b i))) ≡ i
       unfolding spare
-      ordered-offset o =
+      ordered_offset o =
           let all : T (in_order s (pages_of s im b) (block_at s im b).filled) = subst T used.ordered o in
           let here = all_below_at (block_at s im b).filled (λ j. eqb (offset_of s (address_of (pages_of s im b j))) j) all i k in
           subst (λ (a : ℕ). offset_of s a ≡ i) same_address (eqb→eq _ i here)
 
 module _ (s : Shape) (im : Image) (p : 0 < s.pages) (b : ℕ) (t : T (is_used (block_at s im b).state)) where
   first_entry : EntryAt s im (block_at s im b) (page_no s b 0) 0
-  first_entry = used-entry s im b 0 p t (used_used_pages s im b p t).some
+  first_entry = used_entry s im b 0 p t (used_used_pages s im b p t).some
 
   pub used_number : (1 ≤ (block_at s im b).number) × ((block_at s im b).number ≤ number_limit)
   used_number = let e = first_entry in (omega (arith, e.number, e.table.number_low), omega (arith, e.number, e.table.number_high))

@@ -32,8 +32,8 @@ module _ (s : Shape) (im : Image) (w : Sound s im) (l : ℕ) where
 
   pub data Cases : Case → Type 0 where
     has_room : T (is_live s c (live_log s c l)) → (c (live_log s c l)).logical ≡ l → (c (live_log s c l)).filled < s.pages → Cases room
-    has-none : NoLive s c l → live_logs s c < s.logs → Cases fresh
-    must-merge : (m : ℕ) → MergeFirst m → Cases (merging m)
+    has_none : NoLive s c l → live_logs s c < s.logs → Cases fresh
+    must_merge : (m : ℕ) → MergeFirst m → Cases (merging m)
 
   with_log : T (is_live s c (live_log s c l)) → (c (live_log s c l)).logical ≡ l → Cases (write_case s c l)
   unfolding write_case
@@ -45,7 +45,7 @@ module _ (s : Shape) (im : Image) (w : Sound s im) (l : ℕ) where
         | inl u ↦ rw (is_true (ltb (c (live_log s c l)).filled s.pages) u) (has_room t e (ltb→lt (c (live_log s c l)).filled s.pages u))
         | inr u ↦
             rw (is_false (ltb (c (live_log s c l)).filled s.pages) (T_not (ltb (c (live_log s c l)).filled s.pages) u))
-            (must-merge l (record {
+            (must_merge l (record {
               live = t;
               logical = e;
               why = inl (nltb→le (c (live_log s c l)).filled s.pages u);
@@ -68,14 +68,14 @@ module _ (s : Shape) (im : Image) (w : Sound s im) (l : ℕ) where
   without_log e nl =
       rw (is_true (is_none (live_log s c l)) (eq→eqb (live_log s c l) none e))
       (elim (tcase (ltb (live_logs s c) s.logs)) [
-        | inl u ↦ rw (is_true (ltb (live_logs s c) s.logs) u) (has-none nl (ltb→lt (live_logs s c) s.logs u))
+        | inl u ↦ rw (is_true (ltb (live_logs s c) s.logs) u) (has_none nl (ltb→lt (live_logs s c) s.logs u))
         | inr u ↦
             let k : s.logs ≤ live_logs s c = nltb→le (live_logs s c) s.logs u in
             let v : ℕ = lowest_below s.blocks (is_live s c) (λ j. (c j).number) in
             let t : T (is_live s c v) = victim_live (omega (arith, w.fits.limits.logs_low)) in
             let q : live_log s c (c v).logical ≡ v = live_log_is s c w.wf v (c v).logical t refl in
             rw (is_false (ltb (live_logs s c) s.logs) (T_not (ltb (live_logs s c) s.logs) u))
-            (must-merge (c v).logical (record {
+            (must_merge (c v).logical (record {
               live = subst (λ (i : ℕ). T (is_live s c i)) (sym q) t;
               logical = ap (λ (i : ℕ). (c i).logical) q;
               why = inr (e, k);

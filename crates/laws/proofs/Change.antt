@@ -170,8 +170,8 @@ module _ (s : Shape) (c : Blocks) (b : ℕ) (x : Block) where
       (test-i : (k : Blocks) (j : ℕ) → R (data_number s k (k j).logical) (k j) → T (test k j))
       (l : ℕ) (e : data_number s (changed c b x) l ≡ data_number s c l)
       (old : T (test c b) → (c b).logical ≢ l) (new : R (data_number s c l) x → x.logical ≢ l) where
-    role-to : (j : ℕ) → Has (test c) c l j → Has (test c') c' l j
-    role-to j q =
+    role_to : (j : ℕ) → Has (test c) c l j → Has (test c') c' l j
+    role_to j q =
         let n : j ≢ b = λ z. old (subst (λ (i : ℕ). T (test c i)) z q.passes) (subst (λ (i : ℕ). (c i).logical ≡ l) z q.logical) in
         let z : c' j ≡ c j = changed_other c b x j n in
         let d : data_number s c (c j).logical ≡ data_number s c' (c j).logical = ap (data_number s c) q.logical ∙ sym e
@@ -182,8 +182,8 @@ module _ (s : Shape) (c : Blocks) (b : ℕ) (x : Block) where
           logical = ap (λ (y : Block). y.logical) z ∙ q.logical;
         }
 
-    role-from : (j : ℕ) → Has (test c') c' l j → Has (test c) c l j
-    role-from j q =
+    role_from : (j : ℕ) → Has (test c') c' l j → Has (test c) c l j
+    role_from j q =
         changed_elim c b x (λ j z. z.logical ≡ l → R (data_number s c' z.logical) z → Has (test c) c l j)
         (λ q v. absurd (new (subst (λ (d : ℕ). R d x) (ap (data_number s c') q ∙ e) v) q))
         (λ j n q v. record {
@@ -196,14 +196,14 @@ module _ (s : Shape) (c : Blocks) (b : ℕ) (x : Block) where
     pub live_log_kept : (T (is_live s c b) → (c b).logical ≢ l) → (IsLive s (data_number s c l) x → x.logical ≢ l)
         → live_log s (changed c b x) l ≡ live_log s c l
     live_log_kept old new =
-        live_log_same s c c' l (role-to (IsLive s) (is_live s) (live_e s) (live_i s) l e old new)
-        (role-from (IsLive s) (is_live s) (live_e s) (live_i s) l e old new)
+        live_log_same s c c' l (role_to (IsLive s) (is_live s) (live_e s) (live_i s) l e old new)
+        (role_from (IsLive s) (is_live s) (live_e s) (live_i s) l e old new)
 
     pub data_block_kept : (T (is_data s c b) → (c b).logical ≢ l) → (IsData s (data_number s c l) x → x.logical ≢ l)
         → data_block s (changed c b x) l ≡ data_block s c l
     data_block_kept old new =
-        data_block_same s c c' l (role-to (IsData s) (is_data s) (data_e s) (data_i s) l e old new)
-        (role-from (IsData s) (is_data s) (data_e s) (data_i s) l e old new)
+        data_block_same s c c' l (role_to (IsData s) (is_data s) (data_e s) (data_i s) l e old new)
+        (role_from (IsData s) (is_data s) (data_e s) (data_i s) l e old new)
 
   -- ---- another block, where the data number of its logical block is the same
 
@@ -213,15 +213,15 @@ module _ (s : Shape) (c : Blocks) (b : ℕ) (x : Block) where
     other test =
         ap (λ (y : Block). test (data_number s c' y.logical) y) (changed_other c b x j n) ∙ ap (λ (d : ℕ). test d (c j)) e
 
-    pub obsolete-other : is_obsolete s (changed c b x) j ≡ is_obsolete s c j
+    pub obsolete_other : is_obsolete s (changed c b x) j ≡ is_obsolete s c j
     unfolding is_obsolete is_data is_live
-    obsolete-other =
+    obsolete_other =
         other (λ d y. is_used y.state && not (is_complete s y && eqb y.number d)
         && not (is_used y.state && eqb y.kind log_kind && not (is_complete s y) && ltb d y.number))
 
-    pub live-other : is_live s (changed c b x) j ≡ is_live s c j
+    pub live_other : is_live s (changed c b x) j ≡ is_live s c j
     unfolding is_live
-    live-other = other (λ d y. is_used y.state && eqb y.kind log_kind && not (is_complete s y) && ltb d y.number)
+    live_other = other (λ d y. is_used y.state && eqb y.kind log_kind && not (is_complete s y) && ltb d y.number)
 
 -- a used block with a number below the data block's is obsolete
 pub below_obsolete : (s : Shape) (c : Blocks) (j : ℕ) → T (is_used (c j).state) → (c j).number < data_number s c (c j).logical → T (is_obsolete s c j)
@@ -327,7 +327,7 @@ module _ (s : Shape) (c : Blocks) (b : ℕ) (x : Block) (w : WellFormed s c) (p 
           | inl d ↦ inr (inl (sym (data_block_is s c w j x.logical d e)))
           | inr y ↦ elim y [ inl v ↦ inr (inr (sym (live_log_is s c w j x.logical v e))) | inr o ↦ inl o ]
         ]
-        | inr m ↦ inl (subst T (obsolete-other s c b x j n (r.numbers (c j).logical m)) u)
+        | inr m ↦ inl (subst T (obsolete_other s c b x j n (r.numbers (c j).logical m)) u)
       ]
 
 -- ---- a page more in the live log block of l, which stays incomplete; or the first of a new one
@@ -362,11 +362,11 @@ module _ (s : Shape) (c : Blocks) (b : ℕ) (x : Block) (w : WellFormed s c) (p 
         is_live = log_live;
         obsolete = λ j t. elim (dec_eq j b) [
           | inl e ↦ absurd ((obsolete_e s k' j t).2 (subst (λ (i : ℕ). T (is_live s k' i)) (sym e) log_live))
-          | inr n ↦ subst T (obsolete-other s c b x j n (log_numbers (c j).logical)) t
+          | inr n ↦ subst T (obsolete_other s c b x j n (log_numbers (c j).logical)) t
         ];
         no_live = λ l n f j t e. elim (dec_eq j b) [
           | inl q ↦ n (sym e ∙ ap (λ (z : Block). z.logical) (ap k' q ∙ changed_same c b x))
-          | inr q ↦ f j (subst T (live-other s c b x j q (log_numbers (c j).logical)) t)
+          | inr q ↦ f j (subst T (live_other s c b x j q (log_numbers (c j).logical)) t)
               (ap (λ (z : Block). z.logical) (sym (changed_other c b x j q)) ∙ e)
         ];
       }
@@ -382,7 +382,7 @@ module _ (s : Shape) (c : Blocks) (b : ℕ) (x : Block) (w : WellFormed s c) (p 
   begin none room = log_grown (well_formed_with s c b x w p one few)
     where
       same : (j : ℕ) → j ≢ b → T (is_live s k' j) → T (is_live s c j)
-      same j n t = subst T (live-other s c b x j n (log_numbers (c j).logical)) t
+      same j n t = subst T (live_other s c b x j n (log_numbers (c j).logical)) t
 
       logical : (j : ℕ) → j ≢ b → (k' j).logical ≡ (c j).logical
       logical j n = ap (λ (z : Block). z.logical) (changed_other c b x j n)

@@ -169,10 +169,10 @@ module _ (s : Shape) (a : ℕ) (low : offset_of s a < s.pages) where
         ])
 
     -- it is complete, and the data block from now on
-    pub content-fill : (c' (live_log s c' l)).filled ≡ 0 → data_block s c' l ≡ b → b ≢ none → suc n ≡ s.pages
+    pub content_fill : (c' (live_log s c' l)).filled ≡ 0 → data_block s c' l ≡ b → b ≢ none → suc n ≡ s.pages
         → ((i : ℕ) → i < s.pages → offset_at s im' b i ≡ i)
         → content s im' c' a ≡ cond (eqb (offset_at s im' b n) (offset_of s a)) (page_bytes im' (page_no s b n)) (content s im c a)
-    content-fill z e nn full order =
+    content_fill z e nn full order =
         content_data im' c' z (λ q. nn (sym e ∙ q)) ∙ ap (λ (d : ℕ). page_bytes im' (page_no s d o)) e
         ∙ elim (dec_eq n o) [
           | inl q ↦ rw (eq-eqb (offset_at s im' b n) o (order n (omega arith) ∙ q)) (ap (λ (i : ℕ). page_bytes im' (page_no s b i)) (sym q))

@@ -80,24 +80,24 @@ module _ (s : Shape) (fb n l : ℕ) (page : ℕ → List ℕ) where
 
   module _ (im : Image) (w : Fits s im) (below : fb < s.blocks) (fr : T (is_free (blocks_of s im fb).state)) (low : 1 ≤ n) (high : n ≤ number_limit)
       (hl : l < s.logical) (few : s.logical ≤ s.blocks) (long : (o : ℕ) → o < s.pages → length (page o) ≡ 512) where
-    free-read : T (is_free (block_at s im fb).state)
-    free-read = subst (λ (x : Block). T (is_free x.state)) (blocks_of_at s im fb below) fr
+    free_read : T (is_free (block_at s im fb).state)
+    free_read = subst (λ (x : Block). T (is_free x.state)) (blocks_of_at s im fb below) fr
 
-    is-copied : (m : ℕ) → m ≤ s.pages → Copied s im fb n l page m (copied m im)
-    is-copied = copies_copied s im w fb below free-read low high hl few page long
+    is_copied : (m : ℕ) → m ≤ s.pages → Copied s im fb n l page m (copied m im)
+    is_copied = copies_copied s im w fb below free_read low high hl few page long
 
-    record-at : (m : ℕ) → m ≤ s.pages → block_at s (copied m im) fb ≡ copy_record m
+    record_at : (m : ℕ) → m ≤ s.pages → block_at s (copied m im) fb ≡ copy_record m
     unfolding steps_done list_below
-    record-at zero h = blank_block_at s im fb (free_block_filled s im fb free-read 0 0 0)
-    record-at (suc m) h = copies_block_at s im w fb below free-read low high hl few page long (suc m) (omega arith) h
+    record_at zero h = blank_block_at s im fb (free_block_filled s im fb free_read 0 0 0)
+    record_at (suc m) h = copies_block_at s im w fb below free_read low high hl few page long (suc m) (omega arith) h
 
-    pub copies-is : (m : ℕ) → m ≤ s.pages → Copies im m
-    copies-is m h =
-        let q = is-copied m h in
+    pub copies_is : (m : ℕ) → m ≤ s.pages → Copies im m
+    copies_is m h =
+        let q = is_copied m h in
         record {
           fits = q.fits;
           blocks =
-              blocks_changed s im (copied m im) fb (copy_record m) below (record-at m h)
+              blocks_changed s im (copied m im) fb (copy_record m) below (record_at m h)
               (λ j ne. block_at_same s (copied m im) im w.limits.pages_low j (λ i k. q.others j i ne k));
           others = λ j ne i k. let o = q.others j i ne k in (o.bytes_are, o.spare_are);
           pages = q.bytes;
@@ -116,11 +116,11 @@ module _ (s : Shape) (fb n l : ℕ) (page : ℕ → List ℕ) where
         }
 
     -- what holds after each of them holds along the list
-    pub copies-along : (I : ℕ → Image → Type 0) (m : ℕ) → m ≤ s.pages → ((k : ℕ) → k ≤ m → I 0 (copied k im)) → Along s I 0 (first m) im
+    pub copies_along : (I : ℕ → Image → Type 0) (m : ℕ) → m ≤ s.pages → ((k : ℕ) → k ≤ m → I 0 (copied k im)) → Along s I 0 (first m) im
     unfolding steps_done list_below
-    copies-along I zero h f = f 0 (omega arith)
-    copies-along I (suc m) h f =
+    copies_along I zero h f = f 0 (omega arith)
+    copies_along I (suc m) h f =
         let last : Along s I 0 (copy_step s fb n l page m ∷ []) (copied m im) =
-        (f m (omega arith), (copies-is m (omega arith)).next (omega arith), subst (I 0) (copied_next m im) (f (suc m) (le_refl (suc m)))) in
-        along_append s I 0 (first m) (copy_step s fb n l page m ∷ []) im (copies-along I m (omega arith) (λ k q. f k (omega arith)))
+        (f m (omega arith), (copies_is m (omega arith)).next (omega arith), subst (I 0) (copied_next m im) (f (suc m) (le_refl (suc m)))) in
+        along_append s I 0 (first m) (copy_step s fb n l page m ∷ []) im (copies_along I m (omega arith) (λ k q. f k (omega arith)))
         (subst (λ (e : ℕ). Along s I e (copy_step s fb n l page m ∷ []) (copied m im)) (omega (arith, copies_erases m)) last)

@@ -19,7 +19,7 @@ use Rattle.rules.specs.Facts.{Fits}
 use Rattle.laws.proofs.Below.{All, Distinct, all_two, bit_one, bit_zero, count_below-most, count_below_move}
 use Rattle.laws.proofs.Shape.{offset_of_below}
 use Rattle.laws.proofs.Roles.{used_good, Records, used_below, below_none, complete_e, IsData, IsLive, obsolete_e, WellFormed, Has, has_some, data_block_found, live_log_found, highest_ge, highest_le}
-use Rattle.laws.proofs.Change.{changed, changed_same, changed_other, changed_elim, Fitting, live_log_kept, data_block_kept, good_blocks_kept, obsolete-other, Idle, LiveIs, Quiet, quiet}
+use Rattle.laws.proofs.Change.{changed, changed_same, changed_other, changed_elim, Fitting, live_log_kept, data_block_kept, good_blocks_kept, obsolete_other, Idle, LiveIs, Quiet, quiet}
 use Rattle.laws.proofs.Content.{SamePages, content_same}
 use Rattle.laws.proofs.Along.{Along}
 use Rattle.laws.proofs.Steps.{Erases, erase_done}
@@ -130,13 +130,13 @@ module _ (s : Shape) (im : Image) (w : Sound s im) (b : ℕ) (t : T (is_obsolete
   was j u =
       let u' : T (is_obsolete s c' j) = subst (λ (k : Blocks). T (is_obsolete s k j)) done.blocks u in
       let n : j ≢ b = λ e. subst (λ (y : Block). T (is_used y.state)) (ap c' e ∙ changed_same c b (not_used Free)) (obsolete_e s c' j u').0 in
-      (n, subst T (obsolete-other s c b (not_used Free) j n (calm.numbers (c j).logical)) u')
+      (n, subst T (obsolete_other s c b (not_used Free) j n (calm.numbers (c j).logical)) u')
 
   -- and what else was so is so
   still : (j : ℕ) → j ≢ b → T (is_obsolete s c j) → T (is_obsolete s (blocks_of s im') j)
   still j n u =
       subst (λ (k : Blocks). T (is_obsolete s k j)) (sym done.blocks)
-      (subst T (sym (obsolete-other s c b (not_used Free) j n (calm.numbers (c j).logical))) u)
+      (subst T (sym (obsolete_other s c b (not_used Free) j n (calm.numbers (c j).logical))) u)
 
   fewer : count_below s.blocks (is_obsolete s (blocks_of s im')) + 1 ≤ count_below s.blocks (is_obsolete s c)
   fewer =

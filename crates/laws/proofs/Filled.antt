@@ -49,15 +49,15 @@ module _ (s : Shape) (g : Pages) where
     programmed : (i : ℕ) → i < m → T (is_erased (g i)) → ⊥
     programmed i h t = subst (λ (q : Page). T (is_erased q)) (f.entry i h) t
 
-    erased-past : (i : ℕ) → m ≤ i → i < s.pages → T (is_erased (g i))
-    erased-past i h k = subst (λ (q : Page). T (is_erased q)) (sym (f.blank i h k)) tt
+    erased_past : (i : ℕ) → m ≤ i → i < s.pages → T (is_erased (g i))
+    erased_past i h k = subst (λ (q : Page). T (is_erased q)) (sym (f.blank i h k)) tt
 
     -- a rule that an erased page passes
-    rule-i : (rest : ℕ → Bool) → ((i : ℕ) → i < m → T (rest i)) → (i : ℕ) → i < s.pages → T (is_erased (g i) || rest i)
-    rule-i rest r i h =
+    rule_i : (rest : ℕ → Bool) → ((i : ℕ) → i < m → T (rest i)) → (i : ℕ) → i < s.pages → T (is_erased (g i) || rest i)
+    rule_i rest r i h =
         elim (lt_or_le i m) [
           | inl a ↦ or_r (is_erased (g i)) (rest i) (r i a)
-          | inr a ↦ or_l (is_erased (g i)) (rest i) (erased-past i a h)
+          | inr a ↦ or_l (is_erased (g i)) (rest i) (erased_past i a h)
         ]
 
     same_kind : (i : ℕ) → i < m → kind_of (g i) ≡ k
@@ -70,14 +70,14 @@ module _ (s : Shape) (g : Pages) where
     unfolding W1
     filled-W1 =
         all_below_all s.pages (W1 s g)
-        (rule-i (λ i. all_below i (λ j. not (is_erased (g j))))
+        (rule_i (λ i. all_below i (λ j. not (is_erased (g j))))
         (λ i h. all_below_all i (λ j. not (is_erased (g j))) (λ j a. not_T (is_erased (g j)) (programmed j (omega arith)))))
 
     filled-W2 : T (all W2)
     unfolding W2
     filled-W2 =
         all_below_all s.pages (W2 s g)
-        (rule-i (λ i. is_entry (g i) && eqb (kind_of (g i)) (kind_of (naming g)) && eqb (number_of (g i)) (number_of (naming g)))
+        (rule_i (λ i. is_entry (g i) && eqb (kind_of (g i)) (kind_of (naming g)) && eqb (number_of (g i)) (number_of (naming g)))
         (λ i h. each_chain (is_entry (g i)) (eqb (kind_of (g i)) (kind_of (naming g)) ∷ eqb (number_of (g i)) (number_of (naming g)) ∷ [])
         (subst (λ (q : Page). T (is_entry q)) (sym (f.entry i h)) tt)
         (eq→eqb _ _ (same_kind i h ∙ sym (same_kind 0 (omega arith))), (eq→eqb _ _ (same_number i h ∙ sym (same_number 0 (omega arith))), tt))))
@@ -86,7 +86,7 @@ module _ (s : Shape) (g : Pages) where
     unfolding W3
     filled-W3 =
         all_below_all s.pages (W3 s g)
-        (rule-i (λ i. in_range s (address_of (g i)) && eqb (block_of s (address_of (g i))) (block_of s (address_of (naming g))))
+        (rule_i (λ i. in_range s (address_of (g i)) && eqb (block_of s (address_of (g i))) (block_of s (address_of (naming g))))
         (λ i h. and_i (in_range s (address_of (g i))) (eqb (block_of s (address_of (g i))) (block_of s (address_of (naming g)))) (f.in_range i h)
         (eq→eqb _ _ (f.block i h ∙ sym (f.block 0 (omega arith))))))
 
@@ -94,7 +94,7 @@ module _ (s : Shape) (g : Pages) where
     unfolding W4
     filled-W4 =
         all_below_all s.pages (W4 s g)
-        (λ i h. subst T (sym (or_assoc (is_erased (g i)) no_copy (in_place i))) (rule-i (λ j. no_copy || in_place j) pass i h))
+        (λ i h. subst T (sym (or_assoc (is_erased (g i)) no_copy (in_place i))) (rule_i (λ j. no_copy || in_place j) pass i h))
       where
         no_copy : Bool
         no_copy = not (eqb (kind_of (naming g)) copy_kind)
@@ -109,10 +109,10 @@ module _ (s : Shape) (g : Pages) where
               | inr t ↦ or_l no_copy (in_place i) t
             ]
 
-    filled-count : filled_in s g ≡ m
-    filled-count =
+    filled_count : filled_in s g ≡ m
+    filled_count =
         count_below_prefix (λ i. not (is_erased (g i))) s.pages m f.most (λ i h. not_T (is_erased (g i)) (programmed i h))
-        (λ i h a t. T_not (is_erased (g i)) t (erased-past i h a))
+        (λ i h a t. T_not (is_erased (g i)) t (erased_past i h a))
 
     pub filled_good_block : 0 < m → good_block s g ≡ used_with n k l m (in_order s g m)
     unfolding good_block W1to4
@@ -120,7 +120,7 @@ module _ (s : Shape) (g : Pages) where
         let kind : kind_of (naming g) ≡ k = same_kind 0 h in
         let number : number_of (naming g) ≡ n = same_number 0 h in
         let block : block_of s (address_of (naming g)) ≡ l = f.block 0 h in
-        let count : filled_in s g ≡ m = filled-count in
+        let count : filled_in s g ≡ m = filled_count in
         let order : in_order s g (filled_in s g) ≡ in_order s g m = ap (in_order s g) count in
         cond_no (all_erased s g) _ _ (λ t. programmed 0 h (all_below_at s.pages (λ i. is_erased (g i)) t 0 (omega arith)))
         ∙ cond_yes (W1to4 s g) _ _ (each_chain (all W1) (all W2 ∷ all W3 ∷ all W4 ∷ []) filled-W1 (filled-W2, (filled-W3, (filled-W4, tt))))
@@ -136,74 +136,74 @@ pub record UsedPages (s : Shape) (g : Pages) (x : Block) : Type 0 where
 
 module _ (s : Shape) (g : Pages) where
   pub good_block_free : T (is_free (good_block s g).state) → (i : ℕ) → i < s.pages → g i ≡ Erased
-  good_block_free t i h = is_erased_is (g i) (all_below_at s.pages (λ j. is_erased (g j)) (all-erased t) i h)
+  good_block_free t i h = is_erased_is (g i) (all_below_at s.pages (λ j. is_erased (g j)) (all_erased_lem t) i h)
     where
-      all-erased : T (is_free (good_block s g).state) → T (all_erased s g)
-      all-erased = good_block_cases s g (λ x. T (is_free x.state) → T (all_erased s g)) (λ a u. a) (λ u. absurd u) (λ f a u. absurd u)
+      all_erased_lem : T (is_free (good_block s g).state) → T (all_erased s g)
+      all_erased_lem = good_block_cases s g (λ x. T (is_free x.state) → T (all_erased s g)) (λ a u. a) (λ u. absurd u) (λ f a u. absurd u)
 
   module _ (f : T (all_erased s g) → ⊥) (rules : T (W1to4 s g)) where
     first : Before (λ i. not (is_erased (g i))) s.pages
     first i j h k t = not_T (is_erased (g j)) (W1_before s g rules i j h k (T_not (is_erased (g i)) t))
 
-    below-count : (i : ℕ) → i < s.pages → (i < filled_in s g → T (not (is_erased (g i)))) × (T (not (is_erased (g i))) → i < filled_in s g)
-    below-count i h = count_below_first (λ j. not (is_erased (g j))) s.pages first i h
+    below_count : (i : ℕ) → i < s.pages → (i < filled_in s g → T (not (is_erased (g i)))) × (T (not (is_erased (g i))) → i < filled_in s g)
+    below_count i h = count_below_first (λ j. not (is_erased (g j))) s.pages first i h
 
     most : filled_in s g ≤ s.pages
     most = count_below-most s.pages (λ i. not (is_erased (g i)))
 
     -- what a rule asks of a programmed page
-    rule-e : (rest : Bool) (i : ℕ) → i < filled_in s g → T (is_erased (g i) || rest) → T rest
-    rule-e rest i h t =
+    rule_e : (rest : Bool) (i : ℕ) → i < filled_in s g → T (is_erased (g i) || rest) → T rest
+    rule_e rest i h t =
         let h' : i < s.pages = omega (arith, most) in
-        elim (or_e (is_erased (g i)) rest t) [ inl e ↦ absurd (T_not (is_erased (g i)) ((below-count i h').0 h) e) | inr r ↦ r ]
+        elim (or_e (is_erased (g i)) rest t) [ inl e ↦ absurd (T_not (is_erased (g i)) ((below_count i h').0 h) e) | inr r ↦ r ]
 
-    W2-at : (i : ℕ) → i < filled_in s g → T (is_entry (g i)) × (kind_of (g i) ≡ kind_of (naming g)) × (number_of (g i) ≡ number_of (naming g))
+    W2_at : (i : ℕ) → i < filled_in s g → T (is_entry (g i)) × (kind_of (g i) ≡ kind_of (naming g)) × (number_of (g i) ≡ number_of (naming g))
     unfolding W2
-    W2-at i h =
+    W2_at i h =
         let same_kind : Bool = eqb (kind_of (g i)) (kind_of (naming g)) in
         let same_number : Bool = eqb (number_of (g i)) (number_of (naming g)) in
         let t = all_below_at s.pages (W2 s g) (rules_e s g rules).1 i (omega (arith, most)) in
-        let a = rule-e (is_entry (g i) && same_kind && same_number) i h t in
+        let a = rule_e (is_entry (g i) && same_kind && same_number) i h t in
         let e = chain_each (is_entry (g i)) (same_kind ∷ same_number ∷ []) a in
         (e.0, eqb→eq _ _ e.1.0, eqb→eq _ _ e.1.1.0)
 
-    W3-at : (i : ℕ) → i < filled_in s g → T (in_range s (address_of (g i))) × (block_of s (address_of (g i)) ≡ block_of s (address_of (naming g)))
+    W3_at : (i : ℕ) → i < filled_in s g → T (in_range s (address_of (g i))) × (block_of s (address_of (g i)) ≡ block_of s (address_of (naming g)))
     unfolding W3
-    W3-at i h =
+    W3_at i h =
         let range : Bool = in_range s (address_of (g i)) in
         let same_block : Bool = eqb (block_of s (address_of (g i))) (block_of s (address_of (naming g))) in
         let t = all_below_at s.pages (W3 s g) (rules_e s g rules).2 i (omega (arith, most)) in
-        let a = rule-e (range && same_block) i h t in
+        let a = rule_e (range && same_block) i h t in
         (and_l range same_block a, eqb→eq _ _ (and_r range same_block a))
 
-    W4-at : kind_of (naming g) ≡ copy_kind → (i : ℕ) → i < filled_in s g → offset_of s (address_of (g i)) ≡ i
+    W4_at : kind_of (naming g) ≡ copy_kind → (i : ℕ) → i < filled_in s g → offset_of s (address_of (g i)) ≡ i
     unfolding W4
-    W4-at copy i h =
+    W4_at copy i h =
         let no_copy : Bool = not (eqb (kind_of (naming g)) copy_kind) in
         let in_place : Bool = eqb (offset_of s (address_of (g i))) i in
         let t = all_below_at s.pages (W4 s g) (rules_e s g rules).3 i (omega (arith, most)) in
-        let a = rule-e (no_copy || in_place) i h (subst T (or_assoc (is_erased (g i)) no_copy in_place) t) in
+        let a = rule_e (no_copy || in_place) i h (subst T (or_assoc (is_erased (g i)) no_copy in_place) t) in
         elim (or_e no_copy in_place a) [ inl u ↦ absurd (T_not (eqb (kind_of (naming g)) copy_kind) u (eq→eqb _ _ copy)) | inr u ↦ eqb→eq _ _ u ]
 
-    used-filled : Filled s g (number_of (naming g)) (kind_of (naming g)) (block_of s (address_of (naming g))) (filled_in s g)
-    used-filled =
+    used_filled : Filled s g (number_of (naming g)) (kind_of (naming g)) (block_of s (address_of (naming g))) (filled_in s g)
+    used_filled =
         record {
           most = most;
-          entry = λ i h. let e = W2-at i h in is_entry_is (g i) e.0 ∙ ap (λ (k : ℕ). Entry (number_of (g i)) k (address_of (g i))) e.1
+          entry = λ i h. let e = W2_at i h in is_entry_is (g i) e.0 ∙ ap (λ (k : ℕ). Entry (number_of (g i)) k (address_of (g i))) e.1
               ∙ ap (λ (n : ℕ). Entry n (kind_of (naming g)) (address_of (g i))) e.2;
-          in_range = λ i h. (W3-at i h).0;
-          block = λ i h. (W3-at i h).1;
-          offset = W4-at;
-          blank = λ i h k. elim (tcase (is_erased (g i))) [ inl t ↦ is_erased_is (g i) t | inr t ↦ absurd (let l = (below-count i k).1 t in omega arith) ];
+          in_range = λ i h. (W3_at i h).0;
+          block = λ i h. (W3_at i h).1;
+          offset = W4_at;
+          blank = λ i h k. elim (tcase (is_erased (g i))) [ inl t ↦ is_erased_is (g i) t | inr t ↦ absurd (let l = (below_count i k).1 t in omega arith) ];
         }
 
-    used-some : 0 < s.pages → 0 < filled_in s g
-    used-some p = (below-count 0 p).1 (not_T (is_erased (naming g)) (first_programmed s g f rules))
+    used_some : 0 < s.pages → 0 < filled_in s g
+    used_some p = (below_count 0 p).1 (not_T (is_erased (naming g)) (first_programmed s g f rules))
 
   pub good_block_used : 0 < s.pages → T (is_used (good_block s g).state) → UsedPages s g (good_block s g)
   good_block_used p =
       good_block_cases s g (λ x. T (is_used x.state) → UsedPages s g x) (λ a u. absurd u) (λ u. absurd u)
-      (λ f a u. record { some = used-some f a p; filled = used-filled f a; ordered = refl })
+      (λ f a u. record { some = used_some f a p; filled = used_filled f a; ordered = refl })
 
 -- ---- one more page
 

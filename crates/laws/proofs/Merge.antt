@@ -34,7 +34,7 @@ module _ (s : Shape) (im : Image) (w : Sound s im) (l : ℕ) where
   long o h =
       content_length s (logical_page s l o) (offset_of_below s w.fits.limits (logical_page s l o)) im c
       (λ i k. page_length v i (v_below i k) (omega (arith, w.wf.records.fits v)))
-      (λ q. page_length d (offset_of s (logical_page s l o)) (d-below q) (offset_of_below s w.fits.limits (logical_page s l o)))
+      (λ q. page_length d (offset_of s (logical_page s l o)) (d_below q) (offset_of_below s w.fits.limits (logical_page s l o)))
     where
       m : ℕ
       m = block_of s (logical_page s l o)
@@ -50,8 +50,8 @@ module _ (s : Shape) (im : Image) (w : Sound s im) (l : ℕ) where
           let some : v ≢ none = λ z. omega (arith, none_filled s c w.wf.records, ap (λ (j : ℕ). (c j).filled) z) in
           used_below s c w.wf.records v (live_used s c v (has_some (live_log_found s c w.wf.records m) some).passes)
 
-      d-below : d ≢ none → d < s.blocks
-      d-below q = used_below s c w.wf.records d (data_used s c d (has_some (data_block_found s c w.wf.records m) q).passes)
+      d_below : d ≢ none → d < s.blocks
+      d_below q = used_below s c w.wf.records d (data_used s c d (has_some (data_block_found s c w.wf.records m) q).passes)
 
   -- its own content: nothing reads differently
   renewed_same : (a : ℕ) → renewed s l (contents s im c l) (content_of s im) a ≡ content_of s im a
@@ -71,20 +71,20 @@ module _ (s : Shape) (im : Image) (w : Sound s im) (l : ℕ) where
 
   module _ (rec : Recovered s (blocks_of s im)) (hl : l < s.logical) (fit : new_number s (blocks_of s im) ≤ number_limit) where
     -- after m of the pages
-    pub merge-made : (m : ℕ) → m ≤ s.pages → Copies s (taken s (blocks_of s im)) (new_number s (blocks_of s im)) l (contents s im (blocks_of s im) l) im m
-    merge-made = renewal_made s im w rec l hl fit (contents s im c l) long
+    pub merge_made : (m : ℕ) → m ≤ s.pages → Copies s (taken s (blocks_of s im)) (new_number s (blocks_of s im)) l (contents s im (blocks_of s im) l) im m
+    merge_made = renewal_made s im w rec l hl fit (contents s im c l) long
 
-    pub merge-along : (I : ℕ → Image → Type 0) → ((e : ℕ) (im' : Image) → Before s im e im' → I e im')
+    pub merge_along : (I : ℕ → Image → Type 0) → ((e : ℕ) (im' : Image) → Before s im e im' → I e im')
         → ((e : ℕ) (im' : Image) → After s im l (content_of s im) e im' → I e im')
         → Along s I 0 (merge_list s im (blocks_of s im) l) im
     unfolding merge_list
-    merge-along I f h = renewal_along s im w rec l hl fit (contents s im c l) long I f (λ e im' r. h e im' (as_held e im' r))
+    merge_along I f h = renewal_along s im w rec l hl fit (contents s im c l) long I f (λ e im' r. h e im' (as_held e im' r))
 
-    pub merge-end : After s im l (content_of s im) (0 + erases (merge_list s im (blocks_of s im) l)) (steps_done s (merge_list s im (blocks_of s im) l) im)
+    pub merge_end : After s im l (content_of s im) (0 + erases (merge_list s im (blocks_of s im) l)) (steps_done s (merge_list s im (blocks_of s im) l) im)
         × Recovered s (blocks_of s (steps_done s (merge_list s im (blocks_of s im) l) im))
     unfolding merge_list
-    merge-end = let r = renewal_end s im w rec l hl fit (contents s im c l) long in (as_held _ _ r.0, r.1)
+    merge_end = let r = renewal_end s im w rec l hl fit (contents s im c l) long in (as_held _ _ r.0, r.1)
 
-pub merge-programs : (s : Shape) (im : Image) (c : Blocks) (l : ℕ) → programs (merge_list s im c l) ≡ s.pages
+pub merge_programs : (s : Shape) (im : Image) (c : Blocks) (l : ℕ) → programs (merge_list s im c l) ≡ s.pages
 unfolding merge_list
-merge-programs s im c l = renewal_programs s c l (contents s im c l)
+merge_programs s im c l = renewal_programs s c l (contents s im c l)

@@ -27,13 +27,13 @@ use Rattle.laws.proofs.Pages.{steps_done-append}
 use Rattle.laws.proofs.Roles.{free_not_used, used_below, below_none, none_filled, data_used, live_used, data_block_found, live_log_found, Recovered, highest_ge, taken_free}
 use Rattle.laws.proofs.Records.{blocks_of_at}
 use Rattle.laws.proofs.Filled.{used_with}
-use Rattle.laws.proofs.Blocks.{free_block_filled, blank_block_at, steps_block_at, erases_in_lem, erases-apart, erases-block_at}
+use Rattle.laws.proofs.Blocks.{free_block_filled, blank_block_at, steps_block_at, erases_in_lem, erases_apart, erases-block_at}
 use Rattle.laws.proofs.Change.{changed, changed_same, changed_other}
 use Rattle.laws.proofs.Content.{SamePages, content_same}
 use Rattle.laws.proofs.Erasing.{Sound, content_of}
 use Rattle.laws.proofs.Copy.{Copies, copy_record, copy_record_some}
 use Rattle.laws.proofs.Renewal.{After}
-use Rattle.laws.proofs.Merge.{merge-made, merge-end}
+use Rattle.laws.proofs.Merge.{merge_made, merge_end}
 
 -- a block of an image that is free has the record of a free block
 pub free_record : (s : Shape) (im : Image) (j : ℕ) → j < s.blocks → T (is_free (blocks_of s im j).state) → blocks_of s im j ≡ not_used Free
@@ -80,7 +80,7 @@ module _ (s : Shape) (im : Image) (w : Sound s im) (rec : Recovered s (blocks_of
   moment m = steps_done s (list_below m (copy_step s f (new_number s c) l own)) im
 
   copying : (m : ℕ) → m ≤ s.pages → Copies s f (new_number s c) l own im m
-  copying = merge-made s im w l rec hl fit
+  copying = merge_made s im w l rec hl fit
 
   -- A copy step reads the image of that moment: by the records of the start, each page has the content that it had.
   pub moment_content : (m : ℕ) → m ≤ s.pages → (a : ℕ) → content s (moment m) c a ≡ content s im c a
@@ -125,7 +125,7 @@ module _ (s : Shape) (im : Image) (w : Sound s im) (rec : Recovered s (blocks_of
       (found_all (λ b. b < s.blocks) d (λ ne. used_below s c w.wf.records d (data_in l ne)))
 
   end : After s im l (content_of s im) (0 + erases (merge_list s im c l)) merged × Recovered s (blocks_of s merged)
-  end = merge-end s im w l rec hl fit
+  end = merge_end s im w l rec hl fit
 
   pub merged_fits : Fits s merged
   merged_fits = end.0.0.sound.fits
@@ -145,17 +145,17 @@ module _ (s : Shape) (im : Image) (w : Sound s im) (rec : Recovered s (blocks_of
   merged_kept j h nv nd =
       blocks_of_at s merged j h ∙ ap (λ (i : Image). block_at s i j) merged_is
       ∙ steps_block_at s (moment s.pages) copied_all.fits (map erase out) (erases_in_lem s out out_below) j
-      (erases-apart s j out (all_append (λ x. j ≢ x) (if_any v) (if_any d) (found_all (λ x. j ≢ x) v (λ ne. nv)) (found_all (λ x. j ≢ x) d (λ ne. nd))))
+      (erases_apart s j out (all_append (λ x. j ≢ x) (if_any v) (if_any d) (found_all (λ x. j ≢ x) v (λ ne. nv)) (found_all (λ x. j ≢ x) d (λ ne. nd))))
       ∙ sym (blocks_of_at s (moment s.pages) j h) ∙ ap (λ (k : Blocks). k j) copied_all.blocks
 
   -- the block taken holds the copy
   merged_copy : blocks_of s merged f ≡ used_with (new_number s c) copy_kind l s.pages true
   merged_copy =
-      merged_kept f f_below (λ e. not-it e (log_used l)) (λ e. not-it e (data_in l)) ∙ changed_same c f copy
+      merged_kept f f_below (λ e. not_it e (log_used l)) (λ e. not_it e (data_in l)) ∙ changed_same c f copy
       ∙ copy_record_some s f (new_number s c) l own s.pages (omega (arith, w.fits.limits.pages_low))
     where
-      not-it : {b : ℕ} → f ≡ b → (b ≢ none → T (is_used (c b).state)) → ⊥
-      not-it {b} e used = f_other b (used (λ z. below_none s c w.wf.records f_below (e ∙ z))) (sym e)
+      not_it : {b : ℕ} → f ≡ b → (b ≢ none → T (is_used (c b).state)) → ⊥
+      not_it {b} e used = f_other b (used (λ z. below_none s c w.wf.records f_below (e ∙ z))) (sym e)
 
   free_test : (j : ℕ) → j < s.blocks → is_free (blocks_of s merged j).state ≡ free_then c f v d j
   free_test j h =

@@ -76,10 +76,10 @@ module _ (s : Shape) (g : Pages) where
 
   -- its first page is programmed
   pub first_programmed : (T (all_erased s g) → ⊥) → T (W1to4 s g) → T (is_erased (naming g)) → ⊥
-  first_programmed f t e = f (all_below_all s.pages (λ i. is_erased (g i)) erased-at)
+  first_programmed f t e = f (all_below_all s.pages (λ i. is_erased (g i)) erased_at)
     where
-      erased-at : (i : ℕ) → i < s.pages → T (is_erased (g i))
-      erased-at i h =
+      erased_at : (i : ℕ) → i < s.pages → T (is_erased (g i))
+      erased_at i h =
           elim (tcase (is_erased (g i))) [
             | inl u ↦ u
             | inr u ↦ elim (lt_or_le 0 i) [

@@ -24,10 +24,10 @@ use Rattle.laws.proofs.Shape.{offset_of_below}
 use Rattle.laws.proofs.Pages.{steps_done-append}
 use Rattle.laws.proofs.Filled.{used_with}
 use Rattle.laws.proofs.Roles.{free_not_used, used_below, below_none, none_filled, complete_i, complete_e, obsolete_e, data_used, live_used, data_not_live, data_number_below, WellFormed, has_some, data_block_found, live_log_found, data_block_is, live_log_none, Recovered, highest_ge, highest_le, taken_free}
-use Rattle.laws.proofs.Change.{changed, changed_same, changed_other, changed_elim, Fitting, NoLive, LiveIs, good_blocks_kept, obsolete-other, below_obsolete, Idle, Quiet, quiet, Completed, complete, complete_obsolete}
+use Rattle.laws.proofs.Change.{changed, changed_same, changed_other, changed_elim, Fitting, NoLive, LiveIs, good_blocks_kept, obsolete_other, below_obsolete, Idle, Quiet, quiet, Completed, complete, complete_obsolete}
 use Rattle.laws.proofs.Content.{content_data}
 use Rattle.laws.proofs.Along.{Allowed, Along, erases-append, programs-append, programs-erases, erases-erases, along_append, along_end, along_map}
-use Rattle.laws.proofs.Copy.{first, copied, copy_record, copy_record_filled, copy_record_some, copies_erases, copies_programs, copied_next, Copies, copies-is, copies-along}
+use Rattle.laws.proofs.Copy.{first, copied, copy_record, copy_record_filled, copy_record_some, copies_erases, copies_programs, copied_next, Copies, copies_is, copies_along}
 use Rattle.laws.proofs.Erasing.{Sound, logical_few, content_of, content_kept, contents_kept, obsoletes, Erasing, erasing_start, live_is_trans, erasing}
 
 -- the bytes of each logical page, those of l being page 0, page 1, ..
@@ -108,7 +108,7 @@ module _ (s : Shape) (im : Image) (w : Sound s im) (rec : Recovered s (blocks_of
 
   -- after m of the pages
   pub renewal_made : (m : ℕ) → m ≤ s.pages → Copies s fb n l page im m
-  renewal_made = copies-is s fb n l page im w.fits fb_below fr (omega arith) fit hl (logical_few s im w) long
+  renewal_made = copies_is s fb n l page im w.fits fb_below fr (omega arith) fit hl (logical_few s im w) long
 
   -- ---- the records while pages are copied
 
@@ -136,11 +136,11 @@ module _ (s : Shape) (im : Image) (w : Sound s im) (rec : Recovered s (blocks_of
 
   so_far_idle : (m : ℕ) → m < s.pages → Idle s (so_far m)
   so_far_idle m h =
-      record { incomplete = λ t. omega (arith, (complete_e s (so_far m) t).full, copy_record_filled s fb n l page m); no_log = no-log m }
+      record { incomplete = λ t. omega (arith, (complete_e s (so_far m) t).full, copy_record_filled s fb n l page m); no_log = no_log_lem m }
     where
-      no-log : (m : ℕ) → T (is_used (so_far m).state) → (so_far m).kind ≢ log_kind
-      no-log zero t = λ e. t
-      no-log (suc m) t = λ e. omega arith
+      no_log_lem : (m : ℕ) → T (is_used (so_far m).state) → (so_far m).kind ≢ log_kind
+      no_log_lem zero t = λ e. t
+      no_log_lem (suc m) t = λ e. omega arith
 
   so_far_sound : (m : ℕ) → m ≤ s.pages → WellFormed s (blocks_of s (after m)) → Sound s (after m)
   so_far_sound m h wf =
@@ -187,7 +187,7 @@ module _ (s : Shape) (im : Image) (w : Sound s im) (rec : Recovered s (blocks_of
       only j t =
           elim (dec_eq j fb) [
             | inl e ↦ e
-            | inr ne ↦ absurd (rec j (subst T (obsolete-other s c fb (so_far m) j ne (calm.numbers (c j).logical)) t))
+            | inr ne ↦ absurd (rec j (subst T (obsolete_other s c fb (so_far m) j ne (calm.numbers (c j).logical)) t))
           ]
 
       one : count_below s.blocks (is_obsolete s (blocks_of s (after m))) ≤ 1
@@ -345,7 +345,7 @@ module _ (s : Shape) (im : Image) (w : Sound s im) (rec : Recovered s (blocks_of
       → Along s I 0 pre im × Allowed s (page_last s c l page) (steps_done s pre im) × Along s J (0 + erases pre) (map erase out) im₁
       × Recovered s (blocks_of s (steps_done s (map erase out) im₁))
   renewal_halves I J f h = (
-    copies-along s fb n l page im w.fits fb_below fr (omega arith) fit hl (logical_few s im w) long I (s.pages - 1) (omega arith)
+    copies_along s fb n l page im w.fits fb_below fr (omega arith) fit hl (logical_few s im w) long I (s.pages - 1) (omega arith)
         (λ k q. f 0 (after k) (copying k (omega (arith, some)))),
     (renewal_made (s.pages - 1) (omega arith)).next (omega (arith, some)),
     subst (λ (i : Image). Along s J (0 + erases pre) (map erase out) i) im₂_is

@@ -129,19 +129,19 @@ module _ (s : Shape) (c : Blocks) (j : ℕ) where
   unfolding is_data
   data_i p = and_i (is_complete s (c j)) (eqb (c j).number data_of) p.complete (eq→eqb (c j).number data_of p.number)
 
-  abbrev live-tests : List Bool
-  live-tests = eqb (c j).kind log_kind ∷ not (is_complete s (c j)) ∷ ltb data_of (c j).number ∷ []
+  abbrev live_tests : List Bool
+  live_tests = eqb (c j).kind log_kind ∷ not (is_complete s (c j)) ∷ ltb data_of (c j).number ∷ []
 
   pub live_e : T (is_live s c j) → IsLive s (data_number s c (c j).logical) (c j)
   unfolding is_live
   live_e t =
-      let (u, (k, (n, (a, _)))) = chain_each (is_used (c j).state) live-tests t in
+      let (u, (k, (n, (a, _)))) = chain_each (is_used (c j).state) live_tests t in
       record { used = u; log = eqb→eq (c j).kind log_kind k; incomplete = T_not (is_complete s (c j)) n; above = ltb→lt data_of (c j).number a }
 
   pub live_i : IsLive s (data_number s c (c j).logical) (c j) → T (is_live s c j)
   unfolding is_live
   live_i p =
-      each_chain (is_used (c j).state) live-tests p.used
+      each_chain (is_used (c j).state) live_tests p.used
       (eq→eqb (c j).kind log_kind p.log, (not_T (is_complete s (c j)) p.incomplete, (lt→ltb data_of (c j).number p.above, tt)))
 
   pub data_used : T (is_data s c j) → T (is_used (c j).state)

@@ -98,8 +98,8 @@ module _ (s : Shape) where
       (lt_or_le c b)
 
   module _ (l : Limits s) where
-    pub page-place-below : (p : ℕ) → p % s.pages < s.pages
-    page-place-below p = mod-lt p (positive l)
+    pub page_place_below : (p : ℕ) → p % s.pages < s.pages
+    page_place_below p = mod-lt p (positive l)
 
 -- ---- logical pages: the same, of logical blocks
 
@@ -114,7 +114,7 @@ module _ (s : Shape) where
   logical_page_of = page_no_of s
 
   pub offset_of_below : Limits s → (a : ℕ) → offset_of s a < s.pages
-  offset_of_below = page-place-below s
+  offset_of_below = page_place_below s
 
   pub in_range_block : Limits s → (a : ℕ) → T (in_range s a) → block_of s a < s.logical
   in_range_block l a t = (div-lt_iff_lt-mul (positive l)).1 (ltb→lt a (s.logical * s.pages) t)

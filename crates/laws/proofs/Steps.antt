@@ -25,7 +25,7 @@ use Rattle.laws.proofs.Spare.{spare_bytes_length, spare_bytes_status, spare_byte
 use Rattle.laws.proofs.Pages.{page_of-cases, Programs, program_fits, program_page, program_other, erase_fits, erase_other}
 use Rattle.laws.proofs.Roles.{good_below, used_good, free_good}
 use Rattle.laws.proofs.Records.{blocks_of_at, blocks_of_records}
-use Rattle.laws.proofs.Blocks.{one_more, Writable, Joins, is_good_good, block_at_same, blocks_of_same, step_block_at, erase_block_at, program_block_at, free_page, used-blank, ordered-offset, used_number}
+use Rattle.laws.proofs.Blocks.{one_more, Writable, Joins, is_good_good, block_at_same, blocks_of_same, step_block_at, erase_block_at, program_block_at, free_page, used_blank, ordered_offset, used_number}
 use Rattle.laws.proofs.Change.{changed, changed_same, changed_other}
 use Rattle.laws.proofs.Content.{SamePages, offset_at}
 use Rattle.laws.proofs.Along.{Allowed}
@@ -65,7 +65,7 @@ module _ (s : Shape) (im : Image) (w : Fits s im) (b : ℕ) where
       → offset_at s im b i ≡ i
   ordered_offsets t o i k h =
       let hb : b < s.blocks = good_in (used_good (blocks_of s im b).state t) in
-      ordered-offset s im b i h (as_read (λ x. T (is_used x.state)) hb t) (as_read (λ x. i < x.filled) hb k) (as_read (λ x. T x.ordered) hb o)
+      ordered_offset s im b i h (as_read (λ x. T (is_used x.state)) hb t) (as_read (λ x. i < x.filled) hb k) (as_read (λ x. T x.ordered) hb o)
 
 -- a page that is read as erased has 528 bytes of 255
 pub page_at-erased : (im : Image) (p : ℕ) → page_at im p ≡ Erased → T (erased (page_bytes im p) (page_spare im p))
@@ -130,7 +130,7 @@ module _ (s : Shape) (im : Image) (w : Fits s im) (b n k a : ℕ) (d : List ℕ)
       elim j.own [
         | inl t ↦ free_page s im b f j.room (as_read s im w b (λ x. T (is_free x.state)) hb t)
         | inr t ↦
-            used-blank s im b f j.room (as_read s im w b (λ x. T (is_used x.state)) hb t.0)
+            used_blank s im b f j.room (as_read s im w b (λ x. T (is_used x.state)) hb t.0)
             (as_read s im w b (λ x. x.filled ≤ f) hb (le_refl f))
       ]
 

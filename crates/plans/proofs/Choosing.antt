@@ -73,12 +73,12 @@ module _ (s : Shape) (c : Blocks) (a : ℕ) {q : Seats} (here : q ≡ seats s c 
   of_full {x = x} n e h f = rw (log_is, ne_eqb q.log none n, ← e, le-ltb x.filled s.pages h) f
 
   module _ {t : Census} (counted : t ≡ census s c) (n : q.log ≡ none) where
-    pub of-fresh : {r : Plan} → t.live < s.logs → r ≡ unmerged 1 t.free 0 t.highest none → r ≡ plan_of s c a
+    pub of_fresh : {r : Plan} → t.live < s.logs → r ≡ unmerged 1 t.free 0 t.highest none → r ≡ plan_of s c a
     unfolding plan_of write_case
-    of-fresh h f =
+    of_fresh h f =
         rw (log_is, eq-eqb q.log none n, ← census_live s c counted, lt-ltb t.live s.logs h)
         (f ∙ rw (census_free s c counted, census_highest s c counted))
 
-    pub of-victim : {r : Plan} {m : ℕ} → s.logs ≤ t.live → m ≡ victim s c → r ≡ merge_plan s c m → r ≡ plan_of s c a
+    pub of_victim : {r : Plan} {m : ℕ} → s.logs ≤ t.live → m ≡ victim s c → r ≡ merge_plan s c m → r ≡ plan_of s c a
     unfolding plan_of write_case
-    of-victim h g f = rw (log_is, eq-eqb q.log none n, ← census_live s c counted, le-ltb t.live s.logs h, ← g) f
+    of_victim h g f = rw (log_is, eq-eqb q.log none n, ← census_live s c counted, le-ltb t.live s.logs h, ← g) f

@@ -17,7 +17,7 @@ use Rattle.rules.specs.Promises.{Replied}
 use Rattle.steps.specs.declared.budget.Budget.{Budget}
 use Rattle.steps.specs.Runs.{started, progress, run, Ran}
 use Rattle.steps.specs.Answers.{finished}
-use Rattle.steps.proofs.Running.{allowed, run_allowed, run_image}
+use Rattle.steps.proofs.Running.{RunAllowed, run_allowed, run_image}
 
 -- the reply with refusal n, 0 for none
 abbrev pub reply_by : ℕ → ℕ → List Step → Reply
@@ -45,7 +45,7 @@ pub replied_done : (s : Shape) (bytes spare : List ℕ) (cut : ℕ) (xs : List S
 replied_done s bytes spare cut xs {n} {bytes'} {spare'} {t₀} {t} {r} z q h f =
     let im : Image = image_of bytes spare in
     let k : Ran s xs (progress im (started cut)) bytes' spare' t = subst (λ (u : Budget). Ran s xs (progress im u) bytes' spare' t) q h in
-    let a : allowed s xs im (started cut) = run_allowed s xs im cut 0 0 false in
+    let a : RunAllowed s xs im (started cut) = run_allowed s xs im cut 0 0 false in
     let e : image_of bytes' spare' ≡ steps_done s (take cut xs) im = run_image s xs im k in
     let u : Budget = (run s xs (progress im (started cut))).budget in
     subst (λ (m : ℕ). Replied s im (reply_by m cut xs) r bytes' spare') z

@@ -87,8 +87,8 @@ pub record Allowed (s : Shape) (xs : List Step) (im : Image) (t : Budget) (st : 
   pub erases_are : st.budget.erases ≡ t.erases + erases (take t.left xs)
   pub short_is : st.budget.short ≡ (t.short || ltb t.left (length xs))
 
-abbrev pub allowed : Shape → List Step → Image → Budget → Type 0
-allowed s xs im t = Allowed s xs im t (run s xs (progress im t))
+abbrev pub RunAllowed : Shape → List Step → Image → Budget → Type 0
+RunAllowed s xs im t = Allowed s xs im t (run s xs (progress im t))
 
 -- one step more in front
 allowed_more : (s : Shape) (x : Step) (xs : List Step) (im : Image) (k p e p' e' : ℕ) (short : Bool) {st : Progress}
@@ -107,7 +107,7 @@ allowed_more s x xs im k p e p' e' short f g ih =
 abbrev pub budget : ℕ → Bool → ℕ → ℕ → Budget
 budget left short p e = record { left = left; short = short; programs = p; erases = e }
 
-pub run_allowed : (s : Shape) (xs : List Step) (im : Image) (left p e : ℕ) (short : Bool) → allowed s xs im (budget left short p e)
+pub run_allowed : (s : Shape) (xs : List Step) (im : Image) (left p e : ℕ) (short : Bool) → RunAllowed s xs im (budget left short p e)
 unfolding run do_one steps_done
 run_allowed s [] im left p e short =
     let z : take {A = Step} left [] ≡ [] = take-nil left in
@@ -118,7 +118,7 @@ run_allowed s [] im left p e short =
       short_is = rw (leb-suc-zero left) (sym (or-false short));
     }
 run_allowed s (x ∷ xs) im zero p e short =
-    let ih : allowed s xs im (budget 0 true p e) = run_allowed s xs im zero p e true in
+    let ih : RunAllowed s xs im (budget 0 true p e) = run_allowed s xs im zero p e true in
     record {
       image = ih.image;
       programs_are = ih.programs_are;

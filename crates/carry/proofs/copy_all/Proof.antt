@@ -9,7 +9,7 @@ use Rattle.words.specs.Words.{records_in}
 use Rattle.steps.specs.Runs.{progress, Ran}
 use Rattle.steps.proofs.Running.{ran_none, ran_same}
 use Rattle.carry.specs.Carrying.{copies_to}
-use Rattle.carry.proofs.Copying.{within_kept, copies-turn}
+use Rattle.carry.proofs.Copying.{within_kept, copies_turn}
 use Rattle.carry.proofs.copy_all.Statement.{statement}
 use Rattle.carry.proofs.copy_all.Tie as tie
 
@@ -43,7 +43,7 @@ loop-again c =
       omega arith,
       search rules,
       search rules,
-      copies-turn a.s (image_of a.bytes.now a.spare.now) (records_in a.list.now) a.r a.block.now turn.loop-o.o
+      copies_turn a.s (image_of a.bytes.now a.spare.now) (records_in a.list.now) a.r a.block.now turn.loop-o.o
           (omega arith) start.requires.3 turn.loop-o.invariant.3 done.copy_page-u.ensures,
     )
 

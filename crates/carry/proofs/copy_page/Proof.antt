@@ -3,7 +3,7 @@ use native.Mathlib.Nat.{mul-le-mul}
 use borrow.Author.Rules.{rules}
 use Rattle.rules.specs.Facts.{image_of}
 use Rattle.words.specs.Words.{records_in}
-use Rattle.carry.proofs.Copying.{page-ran}
+use Rattle.carry.proofs.Copying.{page_ran}
 use Rattle.carry.proofs.copy_page.Statement.{statement}
 use Rattle.carry.proofs.copy_page.Tie as tie
 
@@ -23,7 +23,7 @@ returns c =
     let filled : tie.After-fill_page = search (at) in
     let start : tie.Start = search (filled) in
     let a = start.args in
-    page-ran a.s (image_of a.bytes.now a.spare.now) (records_in a.list.now) a.r a.block.now a.o at.page_no-at.ensures.0
+    page_ran a.s (image_of a.bytes.now a.spare.now) (records_in a.list.now) a.r a.block.now a.o at.page_no-at.ensures.0
     filled.fill_page.ensures done.program_entry.ensures
 
 pub copy_page_spec : {M : Type 1} → statement M

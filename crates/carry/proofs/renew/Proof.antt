@@ -3,7 +3,7 @@ use lib.ListN.{length}
 use borrow.Author.Rules.{rules}
 use Rattle.rules.specs.Facts.{image_of}
 use Rattle.words.specs.Words.{records_in}
-use Rattle.carry.proofs.Copying.{within_kept, renew-ran}
+use Rattle.carry.proofs.Copying.{within_kept, renew_ran}
 use Rattle.carry.proofs.renew.Statement.{statement}
 use Rattle.carry.proofs.renew.Tie as tie
 
@@ -32,7 +32,7 @@ returns c =
     let copied : tie.After-copy_all-copied = search (cleared) in
     let start : tie.Start = search (copied) in
     let a = start.args in
-    renew-ran a.s (image_of a.bytes.now a.spare.now) (records_in a.list.now) a.r a.block.now copied.copy_all-copied.ensures
+    renew_ran a.s (image_of a.bytes.now a.spare.now) (records_in a.list.now) a.r a.block.now copied.copy_all-copied.ensures
     cleared.erase_found-cleared.ensures done.erase_found.ensures
 
 pub renew_spec : {M : Type 1} → statement M

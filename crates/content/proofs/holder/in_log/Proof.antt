@@ -15,7 +15,7 @@ use Rattle.words.specs.Words.{records_in}
 use Rattle.laws.proofs.Tests.{true_is, false_is}
 use Rattle.roles.proofs.Passes.{number_at, is_live_by_lem, of_logical}
 use Rattle.content.specs.Places.{PlaceIn, page_if}
-use Rattle.content.proofs.Places.{log_of, newest_next, newest-none, newest-found, log_found, log_none}
+use Rattle.content.proofs.Places.{log_of, newest_next, newest_none, newest_found, log_found, log_none}
 use Rattle.content.proofs.holder.in_log.Statement.{statement}
 use Rattle.content.proofs.holder.in_log.Tie as tie
 use Rattle.content.proofs.holder.in_log.Lts.{then-i-eq0, else-i-eq0+then-offset_at-o}
@@ -75,9 +75,9 @@ left t =
     let turn : tie.At-scan invariant-loop-i decreases-loop-i invariant-scan decreases-scan = search (t) in
     let a = (start turn).args in
     elim t.if-i-eq0.branch [
-      | then-i-eq0 w ↦ newest-none a.s a.spare.now turn.scan.b a.o here.invariant.2 w.if-i-eq0.true (omega arith)
+      | then-i-eq0 w ↦ newest_none a.s a.spare.now turn.scan.b a.o here.invariant.2 w.if-i-eq0.true (omega arith)
       | else-i-eq0+then-offset_at-o w ↦
-          newest-found a.s a.spare.now turn.scan.b a.o here.invariant.2 (omega arith) here.invariant.0 (omega arith)
+          newest_found a.s a.spare.now turn.scan.b a.o here.invariant.2 (omega arith) here.invariant.0 (omega arith)
           (sym w.offset_at.ensures ∙ w.if-offset_at-o.true)
     ]
 

@@ -2,7 +2,7 @@ use Prim.Native.Nat.{◌≤◌, ◌<◌}
 use native.Mathlib.Omega.{arith}
 use borrow.Author.Rules.{rules}
 use Rattle.words.specs.Words.{records_in}
-use Rattle.plans.proofs.Choosing.{of_room, of_full, of-fresh, of-victim}
+use Rattle.plans.proofs.Choosing.{of_room, of_full, of_fresh, of_victim}
 use Rattle.plans.proofs.plan.of.Statement.{statement}
 use Rattle.plans.proofs.plan.of.Tie as tie
 
@@ -39,7 +39,7 @@ returns-3 c =
     let start : tie.Start = search (here) in
     let a = start.args in
     let most : a.s.logs ≤ a.t.live = omega arith in
-    of-victim a.s (records_in a.list.now) a.a here.of-q.ensures start.requires.2 none.if-q-ne-NONE.false most
+    of_victim a.s (records_in a.list.now) a.a here.of-q.ensures start.requires.2 none.if-q-ne-NONE.false most
     victim.oldest-m.ensures c.merge_first-2.ensures
 
 pub of_spec : {M : Type 1} → statement M
@@ -53,5 +53,5 @@ of_spec =
     let start : tie.Start = search (here) in
     let a = start.args in
     let few : a.t.live < a.s.logs = omega arith in
-    of-fresh a.s (records_in a.list.now) a.a here.of-q.ensures start.requires.2 none.if-q-ne-NONE.false few c.unmerged.ensures)
+    of_fresh a.s (records_in a.list.now) a.a here.of-q.ensures start.requires.2 none.if-q-ne-NONE.false few c.unmerged.ensures)
     (λ c κs. search rules) (λ c κs. search rules) (λ c κs. search rules) returns-3)
