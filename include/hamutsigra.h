@@ -77,6 +77,7 @@
  *     the shape (docs/PERFORMANCE.md has the figure of each function).
  *   - The time to read the whole image, however little the command changes.
  *   - memcpy and memset of the platform. Nothing else is linked to.
+ *   - A processor with SSE 4.2 (x86-64-v2): the library is compiled for it.
  *   - No state of its own. Calls may interrupt each other or run side by side as long
  *     as none is lent what another one writes.
  */
