@@ -29,12 +29,12 @@ fn wide(x: u8) -> usize {
     x as usize
 }
 
-// The sum of each byte times its place, from 1 on. A byte in front moves the others a place on: `placed` grows by the sum of all.
-// No sum here wraps: there are at most 133,120 bytes.
 pub(crate) fn sum(out: &impl Print, bytes: &[u8]) -> io::Result<()> {
     number(out, placed_sum(bytes))
 }
 
+// The sum of each byte times its place, from 1 on. A byte in front moves the others a place on: `placed` grows by the sum of all.
+// No sum here wraps: there are at most 133,120 bytes.
 fn placed_sum(bytes: &[u8]) -> usize {
     let mut all = 0usize;
     let mut placed = 0usize;
