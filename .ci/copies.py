@@ -8,6 +8,10 @@ from pathlib import Path
 
 ROOT = Path(__file__).resolve().parent.parent
 
+# what the prover says of a name that is no longer there, and where it came to a limit of its own
+GONE = re.compile(r'has no field|is not in scope|has no `|that can be named from here')
+LIMITS = re.compile(r'antt ran out of (stack|the (steps|memory))|(outgrew the memory limit|stopped at the step limit) \(')
+
 
 def needed(crates):
     """The crates and what they depend on, as crates.txt has them: of each what kind it is, and the crates that it uses."""
@@ -75,5 +79,5 @@ def refusals(out):
 
 
 def by_form(out):
-    """A line that says that a proof names what is no longer there: such a refusal shows nothing of the meaning."""
-    return next((line for line in out.splitlines() if re.search(r'has no field|is not in scope|has no `|that can be named from here', line)), None)
+    """A line that says that a proof names what is no longer there, or that the prover came to a limit: such a refusal shows nothing of the meaning."""
+    return next((line for line in out.splitlines() if GONE.search(line) or LIMITS.search(line)), None)

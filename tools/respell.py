@@ -38,7 +38,9 @@ def from_libraries(text):
 def promise(text, file):
     """Gives the promise of a command the spelling of a type where the file has it from Promises.antt."""
     if file.name == 'Promises.antt' or re.search(r'use Rattle\.rules\.specs\.Promises\.\{[^}]*\bgiven\b', text):
-        return re.sub(rf'(?<![\w.-]){PROMISE[0]}(?![\w-])(?! :(?! ℕ →))', PROMISE[1], text)
+        parts = re.split(r'((?:--|//)[^\n]*)', text)
+        parts[::2] = [re.sub(rf'(?<![\w.-]){PROMISE[0]}(?![\w-])', PROMISE[1], part) for part in parts[::2]]
+        return ''.join(parts)
     return text
 
 

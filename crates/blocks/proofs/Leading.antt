@@ -216,9 +216,9 @@ start_begins s g {x} d t here e =
 
 -- the cases of start_of, as `start` comes to them
 module _ (s : Shape) {q : Page} {r : Block} where
-  pub start_of_erased : q ≡ Erased → r ≡ not_used Free → r ≡ start_of s q
+  pub start_of-erased : q ≡ Erased → r ≡ not_used Free → r ≡ start_of s q
   unfolding start_of
-  start_of_erased e f = f ∙ ap (start_of s) (sym e)
+  start_of-erased e f = f ∙ ap (start_of s) (sym e)
 
   pub start_of_junk : q ≡ Junk → r ≡ not_used Free → r ≡ start_of s q
   unfolding start_of

@@ -29,11 +29,11 @@ module _ (a : Answer) (fits : InBits a) where
   pub packed_number : packed a % 256 ≡ number a
   packed_number = omega arith
 
-  pub packed_programs : packed a / 256 % 16777216 ≡ programs_of a
-  packed_programs = omega arith
+  pub packed-programs : packed a / 256 % 16777216 ≡ programs_of a
+  packed-programs = omega arith
 
-  pub packed_erases : packed a / 4294967296 ≡ erases_of a
-  packed_erases = omega arith
+  pub packed-erases : packed a / 4294967296 ≡ erases_of a
+  packed-erases = omega arith
 
 -- ---- the length of the lists
 

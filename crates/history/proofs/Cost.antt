@@ -10,7 +10,7 @@ use Rattle.rules.specs.declared.shape.Shape.{Shape}
 use Rattle.rules.specs.declared.block.Block.{Block}
 use Rattle.rules.specs.WellFormed.{Blocks, data_number, is_live, live_logs}
 use Rattle.laws.proofs.Tests.{cond_yes, cond_no}
-use Rattle.laws.proofs.Below.{sum_below, sum_below_le, sum_below_move, sum_below_zero, bit_one, bit_zero, count_below_move}
+use Rattle.laws.proofs.Below.{sum_below, sum_below-le, sum_below_move, sum_below-zero, bit_one, bit_zero, count_below_move}
 use Rattle.laws.proofs.Roles.{IsLive, live_e, live_i}
 use Rattle.laws.proofs.Change.{changed, changed_other, LiveIs}
 
@@ -40,14 +40,14 @@ pages_at_dead s c j f = cond_no (is_live s c j) (c j).filled 0 f
 
 pub log_pages_none : (s : Shape) (c : Blocks) → ((j : ℕ) → T (is_live s c j) → ⊥) → log_pages s c ≡ 0
 unfolding log_pages
-log_pages_none s c f = sum_below_zero s.blocks (pages_at s c) (λ j h. pages_at_dead s c j (f j))
+log_pages_none s c f = sum_below-zero s.blocks (pages_at s c) (λ j h. pages_at_dead s c j (f j))
 
 -- ---- where each live log block was one, as it stands
 
 module _ (s : Shape) (c c' : Blocks) (f : LiveIs s c c') where
   pub log_pages_is : log_pages s c' ≤ log_pages s c
   unfolding log_pages
-  log_pages_is = sum_below_le s.blocks (pages_at s c') (pages_at s c) (λ j h. pages_at_is (is_live s c' j) (is_live s c j) (c' j) (c j) (f j))
+  log_pages_is = sum_below-le s.blocks (pages_at s c') (pages_at s c) (λ j h. pages_at_is (is_live s c' j) (is_live s c j) (c' j) (c j) (f j))
 
   -- and i is one no longer
   module _ (i : ℕ) (h : i < s.blocks) (t : T (is_live s c i)) (n : T (is_live s c' i) → ⊥) where

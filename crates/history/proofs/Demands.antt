@@ -23,12 +23,12 @@ use Rattle.history.specs.History.{Tells, Command, read, write, block_write, powe
 use Rattle.history.specs.Demands.{CountsAreOfTheSteps, ReadsTheLastWrite, OneMoreCommand, OnAnyImage, LendsWhatIsRead, NeverProgrammedTwice, BadBlocksStay, SameBadBlocks, StaysWellFormed, AtMostTwiceTheWrites, FewLogicalBlocks, ShortLists, BlockWriteLists, RecoveredCard, WriteIsTaken, BlockWriteIsTaken, PowerUpRecovers, TableOfTheImageLeft, WriteLeavesRecovered, BlockWriteLeavesRecovered, ThereIsAFreeBlock, AFreeBlockAfterTheMerge}
 use Rattle.laws.proofs.Along.{AllAllowed, allowed_take, allowed_append}
 use Rattle.laws.proofs.Erasing.{Sound, content_of, SamePlaces}
-use Rattle.laws.proofs.Renewal.{renewal_programs, renewal_erases}
+use Rattle.laws.proofs.Renewal.{renewal-programs, renewal-erases}
 use Rattle.laws.proofs.Cases.{write_cases}
 use Rattle.history.proofs.Cost.{log_pages_none}
 use Rattle.history.proofs.Plan.{plan_end, plan_erases}
 use Rattle.history.proofs.Prepare.{none_in, pre_goal}
-use Rattle.history.proofs.Write.{the_case, pre_image, write_is, write_programs}
+use Rattle.history.proofs.Write.{the_case, pre_image, write_is, write-programs}
 use Rattle.history.proofs.BlockWrite.{block_write_is, block_write_ok}
 use Rattle.history.proofs.Answers.{counts_told, sound_5, card_of, of_card, write_taken, block_write_taken, read_taken, power_up_taken, power_up_refusal_lem, read_refusal_lem, writing_refusal, done_number, answered_0}
 use Rattle.history.proofs.Outcome.{power_up_cut, power_up_end, taken_plan, outcome}
@@ -224,13 +224,13 @@ few_logical_blocks h S few =
 
 pub short_lists : ShortLists
 short_lists s im a d e = (
-  write_programs s im a d,
+  write-programs s im a d,
   rw (write_is s im a d) (plan_erases s im (taken_plan s im a d (write_taken s im (length d) a e))),
 )
 
 pub block_write_lists : BlockWriteLists
 unfolding block_write_list
-block_write_lists s c l d = (renewal_programs s c l _, renewal_erases s c l _)
+block_write_lists s c l d = (renewal-programs s c l _, renewal-erases s c l _)
 
 -- ---- the card never gets stuck
 

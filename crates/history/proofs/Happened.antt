@@ -20,7 +20,7 @@ use Rattle.rules.specs.Replies.{Reply, carried_out}
 use Rattle.laws.proofs.Tests.{is_true, and_i, lt_or_le, eq→eqb}
 use Rattle.laws.proofs.Spare.{spare_bytes_kind, spare_bytes_address}
 use Rattle.laws.proofs.Along.{programs-append, programs-take, programs-erases}
-use Rattle.laws.proofs.Copy.{copies_programs}
+use Rattle.laws.proofs.Copy.{copies-programs}
 use Rattle.history.specs.History.{answered, is_own, own_done, happened, block_happened}
 use Rattle.history.proofs.Write.{the_case, pre_steps, pre_image, own, post_erases}
 use Rattle.history.proofs.BlockWrite.{copies_first, copy_last, erased_then}
@@ -138,4 +138,4 @@ block_happened_is s im l d cut t =
     post = map erase (erased_then s im l d)
 
     all : programs pre ≡ s.pages - 1
-    all = copies_programs s (taken s (blocks_of s im)) (new_number s (blocks_of s im)) l (part_of d) (s.pages - 1)
+    all = copies-programs s (taken s (blocks_of s im)) (new_number s (blocks_of s im)) l (part_of d) (s.pages - 1)

@@ -182,9 +182,9 @@ module _ (s : Shape) (im : Image) (a : ℕ) (d : List ℕ) where
       record { before = p.0; after = q.0; ends = q.1; allowed = q.2; programs = refl }
 
   -- at most P + 1 programs
-  pub write_programs : programs (write_list s im (blocks_of s im) a d) ≤ s.pages + 1
+  pub write-programs : programs (write_list s im (blocks_of s im) a d) ≤ s.pages + 1
   unfolding own_step
-  write_programs =
+  write-programs =
       rw write_is
       (omega (arith, programs-append pre_steps (own ∷ map erase post_erases), pre_programs the_case, programs-erases post_erases))
     where

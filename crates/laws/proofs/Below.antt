@@ -66,11 +66,11 @@ bit_mono true false f = absurd (f tt)
 bit_mono false true f = omega arith
 bit_mono false false f = omega arith
 
-pub sum_below_le : (n : ℕ) (f g : ℕ → ℕ) → ((j : ℕ) → j < n → f j ≤ g j) → sum_below n f ≤ sum_below n g
+pub sum_below-le : (n : ℕ) (f g : ℕ → ℕ) → ((j : ℕ) → j < n → f j ≤ g j) → sum_below n f ≤ sum_below n g
 unfolding sum_below
-sum_below_le zero f g h = omega arith
-sum_below_le (suc n) f g h =
-    let a = sum_below_le n f g (λ j k. h j (omega arith)) in
+sum_below-le zero f g h = omega arith
+sum_below-le (suc n) f g h =
+    let a = sum_below-le n f g (λ j k. h j (omega arith)) in
     let b = h n (omega arith) in
     omega arith
 
@@ -82,7 +82,7 @@ sum_below_move zero f g b a k l h e = absurd (omega arith)
 sum_below_move (suc n) f g b a k l h e =
     elim (dec_eq n b) [
       | inl q ↦
-          let r = sum_below_le n g f (λ j s. h j (omega arith) (omega arith)) in
+          let r = sum_below-le n g f (λ j s. h j (omega arith) (omega arith)) in
           let e' : g n + a ≤ f n + k = subst (λ (i : ℕ). g i + a ≤ f i + k) (sym q) e in
           omega arith
       | inr q ↦
@@ -91,11 +91,11 @@ sum_below_move (suc n) f g b a k l h e =
           omega arith
     ]
 
-pub sum_below_zero : (n : ℕ) (f : ℕ → ℕ) → ((j : ℕ) → j < n → f j ≡ 0) → sum_below n f ≡ 0
+pub sum_below-zero : (n : ℕ) (f : ℕ → ℕ) → ((j : ℕ) → j < n → f j ≡ 0) → sum_below n f ≡ 0
 unfolding sum_below
-sum_below_zero zero f h = refl
-sum_below_zero (suc n) f h =
-    let a = sum_below_zero n f (λ j k. h j (omega arith)) in
+sum_below-zero zero f h = refl
+sum_below-zero (suc n) f h =
+    let a = sum_below-zero n f (λ j k. h j (omega arith)) in
     let b = h n (omega arith) in
     omega arith
 
@@ -118,7 +118,7 @@ count_below_sum (suc n) p = ap (λ (k : ℕ). k + bit (p n)) (count_below_sum n 
 
 pub count_below-le : (n : ℕ) (p q : ℕ → Bool) → ((j : ℕ) → j < n → T (p j) → T (q j)) → count_below n p ≤ count_below n q
 count_below-le n p q h =
-    omega (arith, count_below_sum n p, count_below_sum n q, sum_below_le n (λ j. bit (p j)) (λ j. bit (q j)) (λ j k. bit_mono (p j) (q j) (h j k)))
+    omega (arith, count_below_sum n p, count_below_sum n q, sum_below-le n (λ j. bit (p j)) (λ j. bit (q j)) (λ j k. bit_mono (p j) (q j) (h j k)))
 
 -- the tests agree but at b, where the count may lose a and gain k
 pub count_below_move : (n : ℕ) (p q : ℕ → Bool) (b a k : ℕ) → b < n → ((j : ℕ) → j < n → j ≢ b → T (q j) → T (p j)) → bit (q b) + a ≤ bit (p b) + k
@@ -143,7 +143,7 @@ count_below_some (suc n) p h =
     ]
 
 pub count_below-none : (n : ℕ) (p : ℕ → Bool) → ((j : ℕ) → j < n → T (p j) → ⊥) → count_below n p ≡ 0
-count_below-none n p f = count_below_sum n p ∙ sum_below_zero n (λ j. bit (p j)) (λ j k. bit_zero (p j) (f j k))
+count_below-none n p f = count_below_sum n p ∙ sum_below-zero n (λ j. bit (p j)) (λ j k. bit_zero (p j) (f j k))
 
 pub count_below-most : (n : ℕ) (p : ℕ → Bool) → count_below n p ≤ n
 unfolding count_below
@@ -487,18 +487,18 @@ pick_below_out (suc n) p j h t a =
 -- ---- list_below
 
 module _ {A : Type 0} where
-  pub list_below_zero : (f : ℕ → A) → list_below 0 f ≡ []
+  pub list_below-zero : (f : ℕ → A) → list_below 0 f ≡ []
   unfolding list_below
-  list_below_zero f = refl
+  list_below-zero f = refl
 
-  pub list_below_suc : (n : ℕ) (f : ℕ → A) → list_below (suc n) f ≡ list_below n f ++ (f n ∷ [])
+  pub list_below-suc : (n : ℕ) (f : ℕ → A) → list_below (suc n) f ≡ list_below n f ++ (f n ∷ [])
   unfolding list_below
-  list_below_suc n f = refl
+  list_below-suc n f = refl
 
-  pub list_below_length : (n : ℕ) (f : ℕ → A) → length (list_below n f) ≡ n
+  pub list_below-length : (n : ℕ) (f : ℕ → A) → length (list_below n f) ≡ n
   unfolding list_below
-  list_below_length zero f = refl
-  list_below_length (suc n) f = omega (arith, length-append (list_below n f) (f n ∷ []), list_below_length n f)
+  list_below-length zero f = refl
+  list_below-length (suc n) f = omega (arith, length-append (list_below n f) (f n ∷ []), list_below-length n f)
 
   pub list_below_at : (n : ℕ) (f : ℕ → A) (i : ℕ) (d : A) → i < n → get_or (list_below n f) i d ≡ f i
   unfolding list_below
@@ -506,9 +506,9 @@ module _ {A : Type 0} where
   list_below_at (suc n) f i d h =
       elim (dec_eq i n) [
         | inl e ↦
-            ap (λ (j : ℕ). get_or (list_below n f ++ (f n ∷ [])) j d) (e ∙ sym (list_below_length n f)) ∙ get_or-append_seam (list_below n f) (f n) [] d
+            ap (λ (j : ℕ). get_or (list_below n f ++ (f n ∷ [])) j d) (e ∙ sym (list_below-length n f)) ∙ get_or-append_seam (list_below n f) (f n) [] d
             ∙ ap f (sym e)
-        | inr e ↦ get_or-append (list_below n f) (f n ∷ []) d i (omega (arith, list_below_length n f)) ∙ list_below_at n f i d (omega arith)
+        | inr e ↦ get_or-append (list_below n f) (f n ∷ []) d i (omega (arith, list_below-length n f)) ∙ list_below_at n f i d (omega arith)
       ]
 
   pub list_below_same : (n : ℕ) (f g : ℕ → A) → ((i : ℕ) → i < n → f i ≡ g i) → list_below n f ≡ list_below n g
@@ -518,25 +518,25 @@ module _ {A : Type 0} where
   -- a list of n that has f 0, .., f (n - 1) is this one
   pub list_below_ext : (n : ℕ) (f : ℕ → A) (d : A) {xs : List A} → length xs ≡ n → ((i : ℕ) → i < n → get_or xs i d ≡ f i) → xs ≡ list_below n f
   list_below_ext n f d {xs} long at =
-      ext_get_or d xs (list_below n f) (long ∙ sym (list_below_length n f)) (λ i h. let k : i < n = omega arith in at i k ∙ sym (list_below_at n f i d k))
+      ext_get_or d xs (list_below n f) (long ∙ sym (list_below-length n f)) (λ i h. let k : i < n = omega arith in at i k ∙ sym (list_below_at n f i d k))
 
   -- the first k of them
-  pub list_below_take : (n k : ℕ) (f : ℕ → A) → k ≤ n → take k (list_below n f) ≡ list_below k f
+  pub list_below-take : (n k : ℕ) (f : ℕ → A) → k ≤ n → take k (list_below n f) ≡ list_below k f
   unfolding list_below
-  list_below_take zero k f h = let e : k ≡ 0 = omega arith in rw e
-  list_below_take (suc n) k f h =
+  list_below-take zero k f h = let e : k ≡ 0 = omega arith in rw e
+  list_below-take (suc n) k f h =
       elim (dec_eq k (suc n)) [
         | inl e ↦ rw e (take_all (suc n) (list_below n f ++ (f n ∷ []))
-            (omega (arith, length-append (list_below n f) (f n ∷ []), list_below_length n f)))
-        | inr e ↦ take-append-le k (list_below n f) (f n ∷ []) (omega (arith, list_below_length n f)) ∙ list_below_take n k f (omega arith)
+            (omega (arith, length-append (list_below n f) (f n ∷ []), list_below-length n f)))
+        | inr e ↦ take-append-le k (list_below n f) (f n ∷ []) (omega (arith, list_below-length n f)) ∙ list_below-take n k f (omega arith)
       ]
 
   -- what is taken of them is all below a number
   pub list_below_some : (n k : ℕ) (f : ℕ → A) → (m : ℕ) × (m ≤ n) × (take k (list_below n f) ≡ list_below m f)
   list_below_some n k f =
       elim (lt_or_le k n) [
-        | inl h ↦ (k, omega arith, list_below_take n k f (omega arith))
-        | inr h ↦ (n, omega arith, take_all k (list_below n f) (omega (arith, list_below_length n f)))
+        | inl h ↦ (k, omega arith, list_below-take n k f (omega arith))
+        | inr h ↦ (n, omega arith, take_all k (list_below n f) (omega (arith, list_below-length n f)))
       ]
 
 -- ---- one more, as a loop counts
@@ -562,7 +562,7 @@ unfolding lowest_below
 lowest_below_more n p f = ap (λ (m : ℕ). lowest_below m p f) (add-one n)
 
 pub list_below_more : {A : Type 0} (n : ℕ) (g : ℕ → A) → list_below n g ++ (g n ∷ []) ≡ list_below (n + 1) g
-list_below_more n g = sym (ap (λ (m : ℕ). list_below m g) (add-one n) ∙ list_below_suc n g)
+list_below_more n g = sym (ap (λ (m : ℕ). list_below m g) (add-one n) ∙ list_below-suc n g)
 
 -- ---- one turn of a loop
 

@@ -26,9 +26,9 @@ use Rattle.laws.proofs.Below.{All, all_below_at, list_below_same}
 use Rattle.laws.proofs.Filled.{Filled, used_with, free_good_block, filled_good_block, UsedPages, good_block_free, good_block_used, NextPage, PageAdded, filled_more, in_order_more}
 use Rattle.laws.proofs.Records.{blocks_of_at, blocks_of_outside, pages_of_at, block_at_bad, block_at_good}
 use Rattle.laws.proofs.Shape.{page_no_below, page_no_same_block, page_no_same_place, logical_page_block, logical_page_offset, block_in_range, in_range_small}
-use Rattle.laws.proofs.Spare.{Kind, InTable, spare_bytes_length, spare_bytes_status}
+use Rattle.laws.proofs.Spare.{Kind, InTable, spare_bytes-length, spare_bytes_status}
 use Rattle.laws.proofs.Roles.{used_good, free_good}
-use Rattle.laws.proofs.Pages.{SamePage, same_page_then, page_at_is, page_at-same, page_of-spare_bytes, page_of-is_entry, Programs, program_fits, program_page, program_other, erase_fits, erase_page, erase_page_at, StepIn, step_block, step_other, StepsIn, Apart, steps_other, steps_done-append}
+use Rattle.laws.proofs.Pages.{SamePage, same_page_then, page_at_is, page_at-same, page_of-spare_bytes, page_of-is_entry, Programs, program_fits, program_page, program_other, erase_fits, erase_page, erase-page_at, StepIn, step_block, step_other, StepsIn, Apart, steps_other, steps_done-append}
 
 -- ---- the mark of a bad block
 
@@ -153,17 +153,17 @@ module _ (s : Shape) (im : Image) (w : Fits s im) where
 -- ---- blocks that are erased
 
 module _ (s : Shape) (im : Image) (w : Fits s im) (b : ℕ) (hb : b < s.blocks) where
-  pub erase_block_at : block_at s (step_done s (erase b) im) b ≡ not_used Free
-  erase_block_at =
+  pub erase-block_at : block_at s (step_done s (erase b) im) b ≡ not_used Free
+  erase-block_at =
       let im' : Image = step_done s (erase b) im in
       block_at_good s im' b (erase_good s im w b hb)
-      ∙ free_good_block s (pages_of s im' b) (λ i h. pages_of_at s im' b i h ∙ erase_page_at s im w b hb i h)
+      ∙ free_good_block s (pages_of s im' b) (λ i h. pages_of_at s im' b i h ∙ erase-page_at s im w b hb i h)
 
   -- a free block stays free
   erase_free : (j : ℕ) → block_at s im j ≡ not_used Free → block_at s (step_done s (erase b) im) j ≡ not_used Free
   erase_free j e =
       elim (dec_eq j b) [
-        | inl z ↦ subst (λ (i : ℕ). block_at s (step_done s (erase b) im) i ≡ not_used Free) (sym z) erase_block_at
+        | inl z ↦ subst (λ (i : ℕ). block_at s (step_done s (erase b) im) i ≡ not_used Free) (sym z) erase-block_at
         | inr ne ↦ step_block_at s im w (erase b) hb j ne ∙ e
       ]
 
@@ -192,7 +192,7 @@ module _ (s : Shape) where
         let im' : Image = step_done s (erase b) im in
         let w' : Fits s im' = erase_fits s im w b h.0 in
         elim (dec_eq j b) [
-          | inl z ↦ erases_free bs im' w' h.1 (subst (λ (i : ℕ). block_at s im' i ≡ not_used Free) (sym z) (erase_block_at s im w b h.0))
+          | inl z ↦ erases_free bs im' w' h.1 (subst (λ (i : ℕ). block_at s im' i ≡ not_used Free) (sym z) (erase-block_at s im w b h.0))
           | inr ne ↦ erases-block_at bs im' w' h.1 (λ a. among (ne, a))
         ]
 
@@ -211,7 +211,7 @@ module _ (s : Shape) (im : Image) (w : Fits s im) (b : ℕ) (hb : b < s.blocks) 
   after = step_done s (entry_step (page_no s b m) n k a d) im
 
   programs : Programs s (page_no s b m) d (spare_bytes n k a)
-  programs = record { page_in = page_no_below s b m hb x.room; bytes_long = hd; spare_long = spare_bytes_length n k a }
+  programs = record { page_in = page_no_below s b m hb x.room; bytes_long = hd; spare_long = spare_bytes-length n k a }
 
   other : (i : ℕ) → i < s.pages → i ≢ m → SamePage after im (page_no s b i)
   unfolding after
@@ -234,10 +234,10 @@ module _ (s : Shape) (im : Image) (w : Fits s im) (b : ℕ) (hb : b < s.blocks) 
         pages = filled_more s (pages_of s im b) (pages_of s after b) f.pages x added;
       }
 
-  pub program_in_order : in_order s (pages_of s (step_done s (entry_step (page_no s b m) n k a d) im) b) (m + 1)
+  pub program-in_order : in_order s (pages_of s (step_done s (entry_step (page_no s b m) n k a d) im) b) (m + 1)
       ≡ (in_order s (pages_of s im b) m && eqb (offset_of s a) m)
   unfolding after
-  program_in_order = in_order_more s (pages_of s im b) (pages_of s after b) f.pages x added
+  program-in_order = in_order_more s (pages_of s im b) (pages_of s after b) f.pages x added
 
 -- The record of a block whose next page gets number n, kind k and logical page a.
 abbrev pub one_more : Shape → Block → ℕ → ℕ → ℕ → Block
@@ -290,15 +290,15 @@ module _ (s : Shape) (im : Image) (w : Fits s im) (b : ℕ) (hb : b < s.blocks) 
         so_far = sym u.ordered ∙ ap (λ (z : Bool). z || x.ordered) (sym (ne_eqb x.filled 0 (λ z. omega (arith, u.some))));
       }
 
-  pub program_block_at : (x : Block) → block_at s im b ≡ x → Joins s x n k a
+  pub program-block_at : (x : Block) → block_at s im b ≡ x → Joins s x n k a
       → block_at s (step_done s (entry_step (page_no s b x.filled) n k a d) im) b ≡ one_more s x n k a
-  program_block_at x is j =
+  program-block_at x is j =
       let o : Ready x = ⊎_elim (ready_free x is) (λ own. ready_used x is own.0 own.1 own.2 own.3) j.own in
       let next : NextPage s k (block_of s a) x.filled a = record { room = j.room; in_range = j.in_range; block = refl; offset = j.offset } in
       let after : Image = step_done s (entry_step (page_no s b x.filled) n k a d) im in
       filled_block_at s after b (program_block_filled s im w b hb o.filled next e d hd) (omega arith)
       ∙ ap (used_with n k (block_of s a) (x.filled + 1))
-      (program_in_order s im w b hb o.filled next e d hd ∙ ap (λ (z : Bool). z && eqb (offset_of s a) x.filled) o.so_far)
+      (program-in_order s im w b hb o.filled next e d hd ∙ ap (λ (z : Bool). z && eqb (offset_of s a) x.filled) o.so_far)
 
 -- ---- a block taken, and its pages programmed in order as a copy of logical block l, with the bytes d
 
@@ -323,10 +323,10 @@ module _ (s : Shape) (im : Image) (w : Fits s im) (b : ℕ) (hb : b < s.blocks) 
       let e : Writable n copy_kind a = record { number_low = low; number_high = high; kind = inr refl; address = small } in
       let x : NextPage s copy_kind l i a = record { room = h; in_range = range; block = in_block_lem; offset = λ k. in_place } in
       let g : Programs s (page_no s b i) (d i) (spare_bytes n copy_kind a) =
-      record { page_in = page_no_below s b i hb h; bytes_long = long i h; spare_long = spare_bytes_length n copy_kind a } in
+      record { page_in = page_no_below s b i hb h; bytes_long = long i h; spare_long = spare_bytes-length n copy_kind a } in
       let after : Image = step_done s (copy_step s b n l d i) im' in
       let other : (j o : ℕ) → page_no s j o ≢ page_no s b i → SamePage after im' (page_no s j o) = λ j o. program_other s im' c.fits g (page_no s j o) in
-      let order = program_in_order s im' c.fits b hb c.filled x e (d i) (long i h) in
+      let order = program-in_order s im' c.fits b hb c.filled x e (d i) (long i h) in
       record {
         fits = program_fits s im' c.fits g;
         filled = program_block_filled s im' c.fits b hb c.filled x e (d i) (long i h);
@@ -356,9 +356,9 @@ module _ (s : Shape) (im : Image) (w : Fits s im) (b : ℕ) (hb : b < s.blocks) 
       (subst (λ (m : ℕ). Copied s im b n l d m (step_done s last before)) (add-one i) (one_copied i h before (copies_copied i (omega arith))))
 
   -- the record of the block after the first i pages, 1 to P
-  pub copies_block_at : (i : ℕ) → 0 < i → i ≤ s.pages
+  pub copies-block_at : (i : ℕ) → 0 < i → i ≤ s.pages
       → block_at s (steps_done s (list_below i (copy_step s b n l d)) im) b ≡ used_with n copy_kind l i true
-  copies_block_at i some h =
+  copies-block_at i some h =
       let im' : Image = steps_done s (list_below i (copy_step s b n l d)) im in
       let c : Copied s im b n l d i im' = copies_copied i h in
       filled_block_at s im' b c.filled some ∙ ap (used_with n copy_kind l i) (is_true (in_order s (pages_of s im' b) i) c.in_order)

@@ -15,7 +15,7 @@ use Rattle.rules.specs.WellFormed.{Blocks, not_used, is_good, is_free, is_ill, i
 use Rattle.rules.specs.Replies.{good_blocks}
 use Rattle.laws.proofs.Tests.{cond_yes, cond_no, dec_eq, lt_or_le, eq→eqb, ne→eqb}
 use Rattle.laws.proofs.Below.{bit_le, count_below-le, count_below_move}
-use Rattle.laws.proofs.Roles.{Records, IsData, IsLive, data_e, data_i, live_e, live_i, obsolete_e, obsolete_i, used_roles, data_number_le, data_number_at, data_number_ge, WellFormed, Has, data_block_same, live_log_same, data_block_is, live_log_is}
+use Rattle.laws.proofs.Roles.{Records, IsData, IsLive, data_e, data_i, live_e, live_i, obsolete_e, obsolete_i, used_roles, data_number-le, data_number_at, data_number-ge, WellFormed, Has, data_block_same, live_log_same, data_block_is, live_log_is}
 
 -- ---- the records c, but x for block b
 
@@ -80,10 +80,10 @@ module _ (s : Shape) (c : Blocks) (b : ℕ) (x : Block) where
     where
       most : data_number s c' l ≤ data_number s c l
       most =
-          data_number_le s c' l (data_number s c l)
+          data_number-le s c' l (data_number s c l)
           (changed_elim c b x (λ j z. j < s.blocks → T (is_complete s z) → z.logical ≡ l → z.number ≤ data_number s c l)
           (λ h t e. absurd (nx t e))
-          (λ j n h t e. subst (λ (k : ℕ). (c j).number ≤ data_number s c k) e (data_number_ge s c j h t)))
+          (λ j n h t e. subst (λ (k : ℕ). (c j).number ≤ data_number s c k) e (data_number-ge s c j h t)))
 
       least : (i : ℕ) × (i < s.blocks) × T (is_complete s (c i)) × ((c i).logical ≡ l) × ((c i).number ≡ data_number s c l)
           → data_number s c l ≤ data_number s c' l
@@ -92,7 +92,7 @@ module _ (s : Shape) (c : Blocks) (b : ℕ) (x : Block) where
           let d : T (is_data s c i) = data_i s c i (record { complete = q.2; number = q.4 ∙ ap (data_number s c) (sym q.3) }) in
           let n : i ≢ b = λ e. nd (subst (λ (j : ℕ). T (is_data s c j)) e d) in
           let z : c' i ≡ c i = changed_other c b x i n in
-          let g = data_number_ge s c' i q.1 (subst (λ (y : Block). T (is_complete s y)) (sym z) q.2) in
+          let g = data_number-ge s c' i q.1 (subst (λ (y : Block). T (is_complete s y)) (sym z) q.2) in
           let g' : (c i).number ≤ data_number s c' (c i).logical = subst (λ (y : Block). y.number ≤ data_number s c' y.logical) z g in
           let g'' : (c i).number ≤ data_number s c' l = subst (λ (k : ℕ). (c i).number ≤ data_number s c' k) q.3 g' in
           omega (arith, q.4)
@@ -101,13 +101,13 @@ module _ (s : Shape) (c : Blocks) (b : ℕ) (x : Block) where
   pub data_number_new : b < s.blocks → T (is_complete s x) → data_number s c x.logical ≤ x.number
       → data_number s (changed c b x) x.logical ≡ x.number
   data_number_new h t k =
-      let lo = data_number_ge s c' b h (subst (λ (z : Block). T (is_complete s z)) (sym (changed_same c b x)) t) in
+      let lo = data_number-ge s c' b h (subst (λ (z : Block). T (is_complete s z)) (sym (changed_same c b x)) t) in
       let lo' : x.number ≤ data_number s c' x.logical = subst (λ (z : Block). z.number ≤ data_number s c' z.logical) (changed_same c b x) lo in
       let hi : data_number s c' x.logical ≤ x.number =
-      data_number_le s c' x.logical x.number
+      data_number-le s c' x.logical x.number
       (changed_elim c b x (λ j z. j < s.blocks → T (is_complete s z) → z.logical ≡ x.logical → z.number ≤ x.number) (λ q u e. le_refl x.number)
       (λ j n q u e. let g : (c j).number ≤ data_number s c x.logical =
-      subst (λ (m : ℕ). (c j).number ≤ data_number s c m) e (data_number_ge s c j q u) in omega arith)) in
+      subst (λ (m : ℕ). (c j).number ≤ data_number s c m) e (data_number-ge s c j q u) in omega arith)) in
       omega arith
 
   -- ---- live log blocks

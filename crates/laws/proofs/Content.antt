@@ -188,10 +188,10 @@ module _ (s : Shape) (a : ℕ) (low : offset_of s a < s.pages) where
   -- ---- its length
 
   -- a content has 512 bytes, where the pages of the blocks of l have
-  pub content_length : (im : Image) (c : Blocks)
+  pub content-length : (im : Image) (c : Blocks)
       → ((i : ℕ) → i < (c (live_log s c l)).filled → length (page_bytes im (page_no s (live_log s c l) i)) ≡ 512)
       → (data_block s c l ≢ none → length (page_bytes im (page_no s (data_block s c l) (offset_of s a))) ≡ 512) → length (content s im c a) ≡ 512
-  content_length im c f g =
+  content-length im c f g =
       ap length (content_from im c) ∙ go (newest s im (live_log s c l) o (c (live_log s c l)).filled)
       (newest_among s im (live_log s c l) o (c (live_log s c l)).filled)
     where

@@ -20,13 +20,13 @@ use Rattle.rules.specs.WellFormed.{not_used, is_free, is_bad, block_at, blocks_o
 use Rattle.rules.specs.Steps.{Step, step_done, steps_done, erases, programs, copy_step}
 use Rattle.rules.specs.Facts.{Fits}
 use Rattle.laws.proofs.Tests.{false_is}
-use Rattle.laws.proofs.Below.{list_below_zero, list_below_suc}
+use Rattle.laws.proofs.Below.{list_below-zero, list_below-suc}
 use Rattle.laws.proofs.Shape.{page_no_below, page_no_block}
-use Rattle.laws.proofs.Spare.{spare_bytes_length, spare_bytes_status, spare_bytes_not_255}
+use Rattle.laws.proofs.Spare.{spare_bytes-length, spare_bytes_status, spare_bytes_not_255}
 use Rattle.laws.proofs.Pages.{steps_done-append}
 use Rattle.laws.proofs.Records.{blocks_of_at, pages_of_at}
 use Rattle.laws.proofs.Filled.{used_with}
-use Rattle.laws.proofs.Blocks.{blank_block_at, free_block_filled, block_at_same, Copied, copies_copied, copies_block_at}
+use Rattle.laws.proofs.Blocks.{blank_block_at, free_block_filled, block_at_same, Copied, copies_copied, copies-block_at}
 use Rattle.laws.proofs.Change.{changed}
 use Rattle.laws.proofs.Content.{SamePages}
 use Rattle.laws.proofs.Along.{Allowed, Along, erases-append, programs-append, along_append}
@@ -54,20 +54,20 @@ module _ (s : Shape) (fb n l : ℕ) (page : ℕ → List ℕ) where
   copy_record_some zero h = absurd (omega arith)
   copy_record_some (suc m) h = refl
 
-  pub copies_erases : (m : ℕ) → erases (first m) ≡ 0
-  copies_erases zero = ap erases (list_below_zero (copy_step s fb n l page))
-  copies_erases (suc m) =
-      ap erases (list_below_suc m (copy_step s fb n l page)) ∙ omega (arith, erases-append (first m) (copy_step s fb n l page m ∷ []), copies_erases m)
+  pub copies-erases : (m : ℕ) → erases (first m) ≡ 0
+  copies-erases zero = ap erases (list_below-zero (copy_step s fb n l page))
+  copies-erases (suc m) =
+      ap erases (list_below-suc m (copy_step s fb n l page)) ∙ omega (arith, erases-append (first m) (copy_step s fb n l page m ∷ []), copies-erases m)
 
-  pub copies_programs : (m : ℕ) → programs (first m) ≡ m
-  copies_programs zero = ap programs (list_below_zero (copy_step s fb n l page))
-  copies_programs (suc m) =
-      ap programs (list_below_suc m (copy_step s fb n l page)) ∙ omega (arith, programs-append (first m) (copy_step s fb n l page m ∷ []), copies_programs m)
+  pub copies-programs : (m : ℕ) → programs (first m) ≡ m
+  copies-programs zero = ap programs (list_below-zero (copy_step s fb n l page))
+  copies-programs (suc m) =
+      ap programs (list_below-suc m (copy_step s fb n l page)) ∙ omega (arith, programs-append (first m) (copy_step s fb n l page m ∷ []), copies-programs m)
 
   pub copied_next : (m : ℕ) (im : Image) → copied (suc m) im ≡ step_done s (copy_step s fb n l page m) (copied m im)
   unfolding steps_done
   copied_next m im =
-      ap (λ (ts : List Step). steps_done s ts im) (list_below_suc m (copy_step s fb n l page))
+      ap (λ (ts : List Step). steps_done s ts im) (list_below-suc m (copy_step s fb n l page))
       ∙ steps_done-append s (first m) (copy_step s fb n l page m ∷ []) im
 
   -- the image after m of them
@@ -89,7 +89,7 @@ module _ (s : Shape) (fb n l : ℕ) (page : ℕ → List ℕ) where
     record_at : (m : ℕ) → m ≤ s.pages → block_at s (copied m im) fb ≡ copy_record m
     unfolding steps_done list_below
     record_at zero h = blank_block_at s im fb (free_block_filled s im fb free_read 0 0 0)
-    record_at (suc m) h = copies_block_at s im w fb below free_read low high hl few page long (suc m) (omega arith) h
+    record_at (suc m) h = copies-block_at s im w fb below free_read low high hl few page long (suc m) (omega arith) h
 
     pub copies_is : (m : ℕ) → m ≤ s.pages → Copies im m
     copies_is m h =
@@ -106,7 +106,7 @@ module _ (s : Shape) (fb n l : ℕ) (page : ℕ → List ℕ) where
               page_in = page_no_below s fb m below k;
               bytes_long = long m k;
               spare_long =
-                  spare_bytes_length n copy_kind (logical_page s l m);
+                  spare_bytes-length n copy_kind (logical_page s l m);
             };
             erased = page_at-erased (copied m im) (page_no s fb m) (sym (pages_of_at s (copied m im) fb m k) ∙ q.filled.pages.blank m (le_refl m) k);
             good = λ t. q.filled.good (subst (λ (b : ℕ). T (is_bad s (copied m im) b)) (page_no_block s fb m k) t);
@@ -123,4 +123,4 @@ module _ (s : Shape) (fb n l : ℕ) (page : ℕ → List ℕ) where
         let last : Along s I 0 (copy_step s fb n l page m ∷ []) (copied m im) =
         (f m (omega arith), (copies_is m (omega arith)).next (omega arith), subst (I 0) (copied_next m im) (f (suc m) (le_refl (suc m)))) in
         along_append s I 0 (first m) (copy_step s fb n l page m ∷ []) im (copies_along I m (omega arith) (λ k q. f k (omega arith)))
-        (subst (λ (e : ℕ). Along s I e (copy_step s fb n l page m ∷ []) (copied m im)) (omega (arith, copies_erases m)) last)
+        (subst (λ (e : ℕ). Along s I e (copy_step s fb n l page m ∷ []) (copied m im)) (omega (arith, copies-erases m)) last)

@@ -17,11 +17,11 @@ use Rattle.laws.proofs.Tests.{dec_eq}
 use Rattle.laws.proofs.Bytes.{part_length}
 use Rattle.laws.proofs.Shape.{page_no_below, logical_page_of, offset_of_below}
 use Rattle.laws.proofs.Roles.{used_below, none_filled, data_used, live_used, has_some, data_block_found, live_log_found, Recovered}
-use Rattle.laws.proofs.Content.{content_length}
+use Rattle.laws.proofs.Content.{content-length}
 use Rattle.laws.proofs.Along.{Along}
 use Rattle.laws.proofs.Copy.{Copies}
 use Rattle.laws.proofs.Erasing.{Sound, content_of}
-use Rattle.laws.proofs.Renewal.{renewed, Before, After, renewal_made, renewal_along, renewal_end, renewal_programs}
+use Rattle.laws.proofs.Renewal.{renewed, Before, After, renewal_made, renewal_along, renewal_end, renewal-programs}
 
 module _ (s : Shape) (im : Image) (w : Sound s im) (l : ℕ) where
   abbrev c : Blocks
@@ -32,7 +32,7 @@ module _ (s : Shape) (im : Image) (w : Sound s im) (l : ℕ) where
 
   long : (o : ℕ) → o < s.pages → length (contents s im c l o) ≡ 512
   long o h =
-      content_length s (logical_page s l o) (offset_of_below s w.fits.limits (logical_page s l o)) im c
+      content-length s (logical_page s l o) (offset_of_below s w.fits.limits (logical_page s l o)) im c
       (λ i k. page_length v i (v_below i k) (omega (arith, w.wf.records.fits v)))
       (λ q. page_length d (offset_of s (logical_page s l o)) (d_below q) (offset_of_below s w.fits.limits (logical_page s l o)))
     where
@@ -87,4 +87,4 @@ module _ (s : Shape) (im : Image) (w : Sound s im) (l : ℕ) where
 
 pub merge_programs : (s : Shape) (im : Image) (c : Blocks) (l : ℕ) → programs (merge_list s im c l) ≡ s.pages
 unfolding merge_list
-merge_programs s im c l = renewal_programs s c l (contents s im c l)
+merge_programs s im c l = renewal-programs s c l (contents s im c l)

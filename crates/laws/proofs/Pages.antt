@@ -21,7 +21,7 @@ use Rattle.rules.proofs.Sizes.{block_within}
 use Rattle.laws.proofs.Tests.{tcase, true_is, false_is, and_l, and_i, cond_yes, cond_no, lt_or_le}
 use Rattle.laws.proofs.Bytes.{all255_replicate, all255_at, part_lent, part_replicate, replaced_length, part_replaced_same, part_replaced_inside, part_replaced_before, part_replaced_after}
 use Rattle.laws.proofs.Shape.{page_no_block, page_no_away}
-use Rattle.laws.proofs.Spare.{Kind, InTable, in_table_facts, spare_bytes_number, spare_bytes_kind, spare_bytes_address, spare_bytes_in_table, spare_bytes_not_255}
+use Rattle.laws.proofs.Spare.{Kind, InTable, in_table_facts, spare_bytes_number, spare_bytes_kind, spare_bytes_address, spare_bytes-in_table, spare_bytes_not_255}
 
 -- ---- what a page says
 
@@ -36,9 +36,9 @@ is_entry_is (Entry n k a) t = refl
 is_entry_is Junk t = absurd t
 
 module _ (d t : List ℕ) where
-  pub page_of_erased : T (erased d t) → page_of d t ≡ Erased
+  pub page_of-erased : T (erased d t) → page_of d t ≡ Erased
   unfolding page_of
-  page_of_erased h = cond_yes (erased d t) _ _ h
+  page_of-erased h = cond_yes (erased d t) _ _ h
 
   pub page_of_entry : (T (erased d t) → ⊥) → T (in_table t) → page_of d t ≡ Entry (number_in t) (kind_in t) (address_in t)
   unfolding page_of
@@ -51,7 +51,7 @@ module _ (d t : List ℕ) where
 pub page_of_255 : page_of (replicate 512 255) (replicate 16 255) ≡ Erased
 unfolding erased
 page_of_255 =
-    page_of_erased (replicate 512 255) (replicate 16 255)
+    page_of-erased (replicate 512 255) (replicate 16 255)
     (and_i (all255 (replicate 16 255)) (all255 (replicate 512 255)) (true_is _ (all255_replicate 16)) (true_is _ (all255_replicate 512)))
 
 -- a page programmed with number n, kind k and logical page a, whatever its data
@@ -61,7 +61,7 @@ page_of-spare_bytes d n k a low high kind small =
     let t : List ℕ = spare_bytes n k a in
     let number : number_in t ≡ n = spare_bytes_number n k a (omega arith) in
     let address : address_in t ≡ a = spare_bytes_address n k a small in
-    page_of_entry d t (λ e. false_is (all255 t) (spare_bytes_not_255 n k a kind) (and_l (all255 t) (all255 d) e)) (spare_bytes_in_table n k a low high kind)
+    page_of_entry d t (λ e. false_is (all255 t) (spare_bytes_not_255 n k a kind) (and_l (all255 t) (all255 d) e)) (spare_bytes-in_table n k a low high kind)
     ∙ cc (spare_bytes_kind n k a)
 
 pub is_erased-page_of : (d t : List ℕ) → is_erased (page_of d t) ≡ erased d t
@@ -87,7 +87,7 @@ pub page_of-cases : (d t : List ℕ) (Q : Page → Type 0) → (T (erased d t) �
     → Q Junk → Q (page_of d t)
 page_of-cases d t Q blank entry junk =
     elim (tcase (erased d t)) [
-      | inl e ↦ rw (page_of_erased d t e) (blank e)
+      | inl e ↦ rw (page_of-erased d t e) (blank e)
       | inr e ↦ elim (tcase (in_table t)) [
         | inl f ↦ rw (page_of_entry d t (T_not (erased d t) e) f) (entry (in_table_facts t f))
         | inr f ↦ rw (page_of_junk d t (T_not (erased d t) e) (T_not (in_table t) f)) junk
@@ -217,8 +217,8 @@ module _ (s : Shape) (im : Image) (w : Fits s im) (b : ℕ) (hb : b < s.blocks) 
         spare_are = erased-part 16 (b * s.pages) s.pages im.spare f.1 i h;
       }
 
-  pub erase_page_at : (i : ℕ) → i < s.pages → page_at (step_done s (erase b) im) (page_no s b i) ≡ Erased
-  erase_page_at i h = page_at_is (erase_page i h) ∙ page_of_255
+  pub erase-page_at : (i : ℕ) → i < s.pages → page_at (step_done s (erase b) im) (page_no s b i) ≡ Erased
+  erase-page_at i h = page_at_is (erase_page i h) ∙ page_of_255
 
   pub erase_other : (j i : ℕ) → j ≢ b → i < s.pages → SamePage (step_done s (erase b) im) im (page_no s j i)
   unfolding step_done

@@ -19,7 +19,7 @@ use Rattle.rules.specs.Shape.{most, block_of, in_range, page_no}
 use Rattle.rules.specs.Page.{Image, page_bytes, page_spare, page_of, page_at, is_erased, is_entry, number_of, kind_of, address_of}
 use Rattle.rules.specs.WellFormed.{naming, Pages, W1, W2, W3, W4, W1to4, not_used, all_erased, used_block, good_block, is_bad, pages_of, block_at, blocks_of, is_used, is_free}
 use Rattle.laws.proofs.Tests.{tcase, is_true, is_false, and_l, or_e, lt_or_le, chain_each}
-use Rattle.laws.proofs.Below.{all_below_at, all_below_all, count_below-most, list_below_length, list_below_at}
+use Rattle.laws.proofs.Below.{all_below_at, all_below_all, count_below-most, list_below-length, list_below_at}
 use Rattle.laws.proofs.Roles.{Records}
 use Rattle.laws.proofs.Spare.{Kind}
 use Rattle.laws.proofs.Pages.{page_of-cases, page_of-is_entry}
@@ -34,7 +34,7 @@ module _ (s : Shape) (im : Image) where
   pub blocks_of_outside : (j : ℕ) → s.blocks ≤ j → blocks_of s im j ≡ not_used Bad
   unfolding blocks_of
   blocks_of_outside j h =
-      get_or-eq_default (list_below s.blocks (block_at s im)) (not_used Bad) (omega (arith, list_below_length s.blocks (block_at s im)))
+      get_or-eq_default (list_below s.blocks (block_at s im)) (not_used Bad) (omega (arith, list_below-length s.blocks (block_at s im)))
 
   pub pages_of_at : (b i : ℕ) → i < s.pages → pages_of s im b i ≡ page_at im (page_no s b i)
   unfolding pages_of

@@ -19,7 +19,7 @@ use Rattle.rules.specs.WellFormed.{Blocks, is_free, is_used, is_complete, is_dat
 use Rattle.rules.specs.Content.{content}
 use Rattle.rules.specs.Steps.{Step, erase, step_done, steps_done, erases, programs, taken, highest, new_number, copies, copy_step, renewal}
 use Rattle.laws.proofs.Tests.{dec_eq}
-use Rattle.laws.proofs.Below.{All, all_append, all_left, all_right, distinct_append, found_all, found_distinct, found_few, found_out, count_below_one, count_below_two, list_below_suc}
+use Rattle.laws.proofs.Below.{All, all_append, all_left, all_right, distinct_append, found_all, found_distinct, found_few, found_out, count_below_one, count_below_two, list_below-suc}
 use Rattle.laws.proofs.Shape.{offset_of_below}
 use Rattle.laws.proofs.Pages.{steps_done-append}
 use Rattle.laws.proofs.Filled.{used_with}
@@ -27,7 +27,7 @@ use Rattle.laws.proofs.Roles.{free_not_used, used_below, below_none, none_filled
 use Rattle.laws.proofs.Change.{changed, changed_same, changed_other, changed_elim, Fitting, NoLive, LiveIs, good_blocks_kept, obsolete_other, below_obsolete, Idle, Quiet, quiet, Completed, complete, complete_obsolete}
 use Rattle.laws.proofs.Content.{content_data}
 use Rattle.laws.proofs.Along.{Allowed, Along, erases-append, programs-append, programs-erases, erases-erases, along_append, along_end, along_map}
-use Rattle.laws.proofs.Copy.{first, copied, copy_record, copy_record_filled, copy_record_some, copies_erases, copies_programs, copied_next, Copies, copies_is, copies_along}
+use Rattle.laws.proofs.Copy.{first, copied, copy_record, copy_record_filled, copy_record_some, copies-erases, copies-programs, copied_next, Copies, copies_is, copies_along}
 use Rattle.laws.proofs.Erasing.{Sound, logical_few, content_of, content_kept, contents_kept, obsoletes, Erasing, erasing_start, live_is_trans, erasing}
 
 -- the bytes of each logical page, those of l being page 0, page 1, ..
@@ -67,7 +67,7 @@ module _ (s : Shape) (c : Blocks) (l : ℕ) (page : ℕ → List ℕ) where
   renewal_is h =
       let e : s.pages ≡ suc (s.pages - 1) = omega arith in
       ap (λ (ts : List Step). ts ++ map erase (old_blocks s c l))
-      (ap (first s (taken s c) (new_number s c) l page) e ∙ list_below_suc (s.pages - 1) (copy_step s (taken s c) (new_number s c) l page))
+      (ap (first s (taken s c) (new_number s c) l page) e ∙ list_below-suc (s.pages - 1) (copy_step s (taken s c) (new_number s c) l page))
       ∙ append_assoc pages_first (page_last ∷ []) (map erase (old_blocks s c l))
 
 module _ (s : Shape) (im : Image) (w : Sound s im) (rec : Recovered s (blocks_of s im)) (l : ℕ) (hl : l < s.logical)
@@ -337,7 +337,7 @@ module _ (s : Shape) (im : Image) (w : Sound s im) (rec : Recovered s (blocks_of
   im₂_is = let e : s.pages ≡ suc (s.pages - 1) = omega (arith, some) in ap after e ∙ copied_next s fb n l page (s.pages - 1) im
 
   no_erases : 0 ≡ 0 + erases pre
-  no_erases = omega (arith, copies_erases s fb n l page (s.pages - 1))
+  no_erases = omega (arith, copies-erases s fb n l page (s.pages - 1))
 
   -- what holds up to the last page, and what holds from it on
   pub renewal_halves : (I J : ℕ → Image → Type 0) → ((e : ℕ) (im' : Image) → Before s im e im' → I e im')
@@ -380,23 +380,23 @@ module _ (s : Shape) (c : Blocks) (l : ℕ) (page : ℕ → List ℕ) where
   abbrev pages : List Step
   pages = first s (taken s c) (new_number s c) l page s.pages
 
-  pub renewal_programs : programs (renewal s c l page) ≡ s.pages
+  pub renewal-programs : programs (renewal s c l page) ≡ s.pages
   unfolding renewal copies
-  renewal_programs =
+  renewal-programs =
       omega (
         arith,
         programs-append pages (map erase (old_blocks s c l)),
-        copies_programs s (taken s c) (new_number s c) l page s.pages,
+        copies-programs s (taken s c) (new_number s c) l page s.pages,
         programs-erases (old_blocks s c l),
       )
 
-  pub renewal_erases : erases (renewal s c l page) ≤ 2
+  pub renewal-erases : erases (renewal s c l page) ≤ 2
   unfolding renewal copies
-  renewal_erases =
+  renewal-erases =
       omega (
         arith,
         erases-append pages (map erase (old_blocks s c l)),
-        copies_erases s (taken s c) (new_number s c) l page s.pages,
+        copies-erases s (taken s c) (new_number s c) l page s.pages,
         erases-erases (old_blocks s c l),
         length-append (if_any (live_log s c l)) (if_any (data_block s c l)),
         found_few (live_log s c l),

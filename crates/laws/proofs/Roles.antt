@@ -17,7 +17,7 @@ use Rattle.rules.specs.WellFormed.{Blocks, not_used, is_good, is_free, is_ill, i
 use Rattle.rules.specs.Steps.{taken, highest}
 use Rattle.rules.specs.Replies.{good_blocks, unrecovered}
 use Rattle.laws.proofs.Tests.{tcase, bool_ext, and_l, and_r, and_i, cond_yes, lt_or_le, eq→eqb, chain_each, each_chain}
-use Rattle.laws.proofs.Below.{all_below_at, all_below_all, bit, bit_le, bit_one, bit_zero, sum_below_le, sum_below_add, sum_below_ones, count_below_sum, count_below_places, highest_below-ge, highest_below-le, highest_below_at, first_below_found, first_below-same}
+use Rattle.laws.proofs.Below.{all_below_at, all_below_all, bit, bit_le, bit_one, bit_zero, sum_below-le, sum_below_add, sum_below_ones, count_below_sum, count_below_places, highest_below-ge, highest_below-le, highest_below_at, first_below_found, first_below-same}
 
 -- ---- states
 
@@ -196,9 +196,9 @@ key_is s x t =
     (and_i (is_complete s x) (eqb x.logical x.logical) t (eqb_refl x.logical))
 
 module _ (s : Shape) (c : Blocks) where
-  pub data_number_le : (l t : ℕ) → ((j : ℕ) → j < s.blocks → T (is_complete s (c j)) → (c j).logical ≡ l → (c j).number ≤ t) → data_number s c l ≤ t
+  pub data_number-le : (l t : ℕ) → ((j : ℕ) → j < s.blocks → T (is_complete s (c j)) → (c j).logical ≡ l → (c j).number ≤ t) → data_number s c l ≤ t
   unfolding data_number
-  data_number_le l t f =
+  data_number-le l t f =
       highest_below-le s.blocks (λ j. key s l (c j)) t
       (λ j h. elim (key_cases s l (c j)) [ inl k ↦ omega (arith, f j h k.0 k.1, k.2) | inr k ↦ omega arith ])
 
@@ -213,9 +213,9 @@ module _ (s : Shape) (c : Blocks) where
         | inr k ↦ absurd (omega (arith, q.2))
       ]
 
-  pub data_number_ge : (j : ℕ) → j < s.blocks → T (is_complete s (c j)) → (c j).number ≤ data_number s c (c j).logical
+  pub data_number-ge : (j : ℕ) → j < s.blocks → T (is_complete s (c j)) → (c j).number ≤ data_number s c (c j).logical
   unfolding data_number
-  data_number_ge j h t = omega (arith, highest_below-ge s.blocks (λ i. key s (c j).logical (c i)) j h, key_is s (c j) t)
+  data_number-ge j h t = omega (arith, highest_below-ge s.blocks (λ i. key s (c j).logical (c i)) j h, key_is s (c j) t)
 
   pub data_number_below : (l n : ℕ) → 0 < n → ((j : ℕ) → j < s.blocks → (c j).number < n) → data_number s c l < n
   data_number_below l n p f =
@@ -445,7 +445,7 @@ module _ (s : Shape) (c : Blocks) (w : WellFormed s c) (rec : Recovered s c) (en
         count_below_sum s.blocks (λ j. is_good (c j).state),
         count_below_sum s.blocks (is_data s c),
         count_below_sum s.blocks (is_live s c),
-        sum_below_le s.blocks (λ j. bit (is_good (c j).state)) (λ j. bit (is_data s c j) + bit (is_live s c j)) (good_roles f),
+        sum_below-le s.blocks (λ j. bit (is_good (c j).state)) (λ j. bit (is_data s c j) + bit (is_live s c j)) (good_roles f),
         sum_below_add s.blocks (λ j. bit (is_data s c j)) (λ j. bit (is_live s c j)),
         data_blocks_few,
         w.few_live,

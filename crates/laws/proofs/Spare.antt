@@ -57,9 +57,9 @@ in_table_facts t h =
 -- ---- spare_bytes
 
 module _ (n k a : ℕ) where
-  pub spare_bytes_length : length (spare_bytes n k a) ≡ 16
+  pub spare_bytes-length : length (spare_bytes n k a) ≡ 16
   unfolding spare_bytes
-  spare_bytes_length = refl
+  spare_bytes-length = refl
 
   pub spare_bytes_number : n < 4294967296 → number_in (spare_bytes n k a) ≡ n
   unfolding spare_bytes
@@ -81,9 +81,9 @@ module _ (n k a : ℕ) where
   unfolding spare_bytes
   spare_bytes_address h = omega arith
 
-  pub spare_bytes_in_table : 1 ≤ n → n ≤ number_limit → Kind k → T (in_table (spare_bytes n k a))
+  pub spare_bytes-in_table : 1 ≤ n → n ≤ number_limit → Kind k → T (in_table (spare_bytes n k a))
   unfolding spare_bytes all255
-  spare_bytes_in_table low high kind =
+  spare_bytes-in_table low high kind =
       let e : number_in (spare_bytes n k a) ≡ n = spare_bytes_number (omega arith) in
       facts_in_table (spare_bytes n k a) (record { number_low = omega arith; number_high = omega arith; kind = kind; status = refl; rest = tt })
 

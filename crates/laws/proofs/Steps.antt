@@ -21,11 +21,11 @@ use Rattle.rules.specs.Steps.{Step, erase, step_done, entry_step}
 use Rattle.rules.specs.Facts.{Fits}
 use Rattle.laws.proofs.Tests.{false_is, dec_eq}
 use Rattle.laws.proofs.Shape.{page_no_below, page_no_block, page_no_same_block, page_no_same_place}
-use Rattle.laws.proofs.Spare.{spare_bytes_length, spare_bytes_status, spare_bytes_address, spare_bytes_not_255}
+use Rattle.laws.proofs.Spare.{spare_bytes-length, spare_bytes_status, spare_bytes_address, spare_bytes_not_255}
 use Rattle.laws.proofs.Pages.{page_of-cases, Programs, program_fits, program_page, program_other, erase_fits, erase_other}
 use Rattle.laws.proofs.Roles.{good_below, used_good, free_good}
 use Rattle.laws.proofs.Records.{blocks_of_at, blocks_of_records}
-use Rattle.laws.proofs.Blocks.{one_more, Writable, Joins, is_good_good, block_at_same, blocks_of_same, step_block_at, erase_block_at, program_block_at, free_page, used_blank, ordered_offset, used_number}
+use Rattle.laws.proofs.Blocks.{one_more, Writable, Joins, is_good_good, block_at_same, blocks_of_same, step_block_at, erase-block_at, program-block_at, free_page, used_blank, ordered_offset, used_number}
 use Rattle.laws.proofs.Change.{changed, changed_same, changed_other}
 use Rattle.laws.proofs.Content.{SamePages, offset_at}
 use Rattle.laws.proofs.Along.{Allowed}
@@ -86,7 +86,7 @@ pub erase_done : (s : Shape) (im : Image) → Fits s im → (b : ℕ) → T (is_
 erase_done s im w b g =
     record {
       fits = erase_fits s im w b h;
-      blocks = blocks_changed s im (step_done s (erase b) im) b (not_used Free) h (erase_block_at s im w b h) (step_block_at s im w (erase b) h);
+      blocks = blocks_changed s im (step_done s (erase b) im) b (not_used Free) h (erase-block_at s im w b h) (step_block_at s im w (erase b) h);
       others = λ j n i k. let q = erase_other s im w b h j i n k in (q.bytes_are, q.spare_are);
       allowed = record { below = h; good = good_not_bad s im w b g };
     }
@@ -123,7 +123,7 @@ module _ (s : Shape) (im : Image) (w : Fits s im) (b n k a : ℕ) (d : List ℕ)
   hb = good_in s im w b good
 
   page : Programs s (page_no s b f) d (spare_bytes n k a)
-  page = record { page_in = page_no_below s b f hb j.room; bytes_long = long; spare_long = spare_bytes_length n k a }
+  page = record { page_in = page_no_below s b f hb j.room; bytes_long = long; spare_long = spare_bytes-length n k a }
 
   blank : page_at im (page_no s b f) ≡ Erased
   blank =
@@ -140,7 +140,7 @@ module _ (s : Shape) (im : Image) (w : Fits s im) (b n k a : ℕ) (d : List ℕ)
         fits = program_fits s im w page;
         blocks =
             blocks_changed s im im' b (one_more s (blocks_of s im b) n k a) hb
-            (program_block_at s im w b hb e d long (blocks_of s im b) (sym (blocks_of_at s im b hb)) j)
+            (program-block_at s im w b hb e d long (blocks_of s im b) (sym (blocks_of_at s im b hb)) j)
             (λ i ne. block_at_same s im' im w.limits.pages_low i
             (λ o h. program_other s im w page (page_no s i o) (λ q. ne (page_no_same_block s i b o f h j.room q))));
         others = λ i ne o h. let q = program_other s im w page (page_no s i o) (λ q. ne (page_no_same_block s i b o f h j.room q)) in

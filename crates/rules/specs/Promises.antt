@@ -8,7 +8,7 @@ use Rattle.rules.specs.Page.{Image}
 use Rattle.rules.specs.Facts.{Fits}
 use Rattle.rules.specs.Replies.{Reply, shape_for, image_left, format_reply, power_up_reply, write_reply, block_write_reply, read_reply, table_left, page_left, lent_page, lent_bytes}
 
--- Every command is Given P, L and K: what is promised of the card's shape s and its image im.
+-- Every command is given P, L and K: what is promised of the card's shape s and its image im.
 abbrev pub Given : ℕ → ℕ → ℕ → Image → (Shape → Image → Type 0) → Type 0
 Given P L K im promise = promise (shape_for P L K im) im
 

@@ -1,4 +1,4 @@
-// The record of a block as one word. A reference to an array of words is lent where one to an array of structs is not taken by the prover.
+// The record of a block as one word. A reference to an array of words is lent, where the prover of an older kit took none to an array of structs.
 
 #![tactic(auto)]
 

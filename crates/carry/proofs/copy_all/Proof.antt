@@ -4,7 +4,7 @@ use native.Mathlib.Omega.{arith}
 use lib.ListN.{length}
 use borrow.Author.Rules.{rules}
 use Rattle.rules.specs.Facts.{image_of}
-use Rattle.laws.proofs.Below.{list_below_zero}
+use Rattle.laws.proofs.Below.{list_below-zero}
 use Rattle.words.specs.Words.{records_in}
 use Rattle.steps.specs.Runs.{progress, Ran}
 use Rattle.steps.proofs.Running.{ran_none, ran_same}
@@ -24,7 +24,7 @@ decreases-loop-o bytes₀ spare₀ block s list numbers r pages u₀ o₀ bytes 
 loop-holds : tie.Need-loop-o-init invariant-loop-o decreases-loop-o
 loop-holds c =
     let start : tie.Start invariant-loop-o decreases-loop-o = search (c) in
-    (omega arith, refl, refl, ran_same (sym (list_below_zero _)) (ran_none start.requires.4))
+    (omega arith, refl, refl, ran_same (sym (list_below-zero _)) (ran_none start.requires.4))
 
 copy_page-requires : tie.Need-copy_page-u-requires invariant-loop-o decreases-loop-o
 copy_page-requires c κs =

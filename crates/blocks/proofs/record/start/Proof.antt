@@ -1,5 +1,5 @@
 use borrow.Author.Rules.{rules}
-use Rattle.blocks.proofs.Leading.{start_of_erased, start_of_junk, start_of_may, start_of_not}
+use Rattle.blocks.proofs.Leading.{start_of-erased, start_of_junk, start_of_may, start_of_not}
 use Rattle.blocks.proofs.record.start.Statement.{statement}
 use Rattle.blocks.proofs.record.start.Tie as tie
 
@@ -7,7 +7,7 @@ returns : tie.Need-returns-then-may_start
 returns c = start_of_may c.args.s c.in-Entry.is c.may_start.ensures c.if-may_start.true c.with_first.ensures
 
 returns-2 : tie.Need-returns-in-Erased
-returns-2 c = start_of_erased c.args.s c.in-Erased.is c.not_used.ensures
+returns-2 c = start_of-erased c.args.s c.in-Erased.is c.not_used.ensures
 
 returns-3 : tie.Need-returns-else-may_start
 returns-3 c = start_of_not c.args.s c.in-Entry.is c.may_start.ensures c.if-may_start.false c.not_used-in-Entry.ensures

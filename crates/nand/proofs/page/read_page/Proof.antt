@@ -5,7 +5,7 @@ use borrow.Author.Rules.{rules}
 use Rattle.rules.specs.declared.page.Page.TheVariants.{Entry}
 use Rattle.rules.specs.Spare.{number_in, kind_in}
 use Rattle.laws.proofs.Tests.{true_is, false_is}
-use Rattle.laws.proofs.Pages.{page_of_erased, page_of-in_table, page_of_junk}
+use Rattle.laws.proofs.Pages.{page_of-erased, page_of-in_table, page_of_junk}
 use Rattle.nand.proofs.page.read_page.Statement.{statement}
 use Rattle.nand.proofs.page.read_page.Tie as tie
 
@@ -25,7 +25,7 @@ returns-2 c =
     let start : tie.Start = search (c) in
     let told : tie.After-page_erased = search (c) in
     let a = start.args in
-    sym (page_of_erased a.page.now a.marks.now (true_is _ (sym told.page_erased.ensures ∙ c.if-page_erased.true)))
+    sym (page_of-erased a.page.now a.marks.now (true_is _ (sym told.page_erased.ensures ∙ c.if-page_erased.true)))
 
 returns-3 : tie.Need-returns
 returns-3 c =
