@@ -103,4 +103,4 @@ c-example: lib
 	done
 
 clean:
-	rm -rf target host/target
+	rm -rf target host/target crates/*/out

@@ -1,6 +1,6 @@
 #!/usr/bin/env python3
 """Spells the repository's own definitions and lemmas as today's Rattle does, by respelled.tsv beside this file: words in snake case, a dash
-between two names alone. It ran once, after the kit's port.py; a second run changes nothing.
+between two names alone. It ran after the kit's port.py, and again when the table had grown; a further run changes nothing.
 
 usage: tools/respell.py [FOLDER]      the repository, or a checkout of another commit
 
