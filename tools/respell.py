@@ -6,7 +6,7 @@ usage: tools/respell.py [FOLDER]      the repository, or a checkout of another c
 
 What turns: in .antt files every whole word but one that the file imports from a library; in .rt files clauses and `ghost use` items; in
 edits the texts of .antt files and the line of what is refused; in pages and comments names in camel case, and in pages dashed names in
-code spans too. Functions of src/ keep their names.
+code spans too. Functions of src/ keep their names, and docs/PORT.md, which sets the older names beside today's, stays as it is.
 """
 import re
 import sys
@@ -99,7 +99,7 @@ def files(root):
     for pattern, turn in (('crates/**/*.antt', antt), ('crates/**/*.rt', rt), ('crates/*/must-fail/*.edit', edit), ('edits/*.edit', edit),
                           ('README.md', page), ('CONTRIBUTING.md', page), ('docs/**/*.md', page)):
         for file in sorted(root.glob(pattern)):
-            if 'out' not in file.relative_to(root).parts:
+            if 'out' not in file.relative_to(root).parts and file.name != 'PORT.md':
                 yield file, turn
 
 
