@@ -3,86 +3,70 @@ use mathlib.Core.Path.{◌≡◌, refl, sym, ap, subst, ◌∙◌, fun_ext}
 use mathlib.Core.Logic.{inl, inr}
 use mathlib.Core.Bool.{Bool, true, false, ◌||◌, cond}
 use mathlib.Core.List.{List}
-use Prim.Native.Nat.{ℕ, ◌+◌, ◌-◌, ◌*◌, ◌≤◌, ◌<◌}
+use Prim.Native.Nat.{ℕ, ◌+◌, ◌*◌, ◌≤◌, ◌<◌}
 use native.Mathlib.Omega.{arith}
 use lib.Dec.{T, ltb}
-use lib.ListN.{length, get_or, set, take, drop, replicate}
+use lib.ListN.{length, get_or, set, length-set}
+use lib.Seq.{get_or-set_same, get_or-set_other}
 use borrow.Author.Tests.{lt-ltb, le-ltb}
 use Rattle.rules.specs.declared.shape.Shape.{Shape}
 use Rattle.rules.specs.declared.page.Page.{Page}
 use Rattle.rules.specs.declared.block.State.{State}
 use Rattle.rules.specs.declared.block.State.TheVariants.{Bad, Free, Ill, Used}
 use Rattle.rules.specs.declared.block.Block.{Block}
-use Rattle.rules.specs.Shape.{most, page_no, logical_page}
-use Rattle.rules.specs.Bytes.{part}
-use Rattle.rules.specs.Page.{Image, page_of, page_at, is_erased}
-use Rattle.rules.specs.Facts.{Within, image_of}
-use Rattle.rules.specs.WellFormed.{Blocks, Pages, not_used, all_erased, W1to4, used_block, good_block, is_bad, pages_of, block_at, blocks_of}
-use Rattle.nand.specs.Entries.{is_entry_of}
-use Rattle.words.specs.Words.{packed, unpacked, records_in, Kinded}
-use Rattle.words.proofs.Words.{packed_bad, unpacked-zero, unpacked-packed}
+use Rattle.std.specs.Prelude.{Option, Some}
+use Rattle.blocks.specs.declared.record.First.{First}
+use Rattle.rules.specs.Shape.{most, page_no}
+use Rattle.rules.specs.Page.{Image, page_bytes, page_spare, page_of, page_at, is_erased}
+use Rattle.rules.specs.Facts.{Fits}
+use Rattle.rules.specs.WellFormed.{Blocks, Pages, not_used, all_erased, W1to4, used_block, good_block, is_bad, pages_of, block_at, blocks_of, blocks_in}
 use Rattle.laws.proofs.Tests.{dec_eq, lt_or_le, false_is, true_is, is_true, is_false}
-use Rattle.laws.proofs.Bytes.{part_lent, part_length}
+use Rattle.laws.proofs.Bytes.{part_length}
 use Rattle.laws.proofs.Shape.{page_no_below}
-use Rattle.laws.proofs.Arrays.{StoredTo, stored_none, stored_more}
-use Rattle.laws.proofs.Below.{all_below-same, list_below_ext}
+use Rattle.laws.proofs.Below.{all_below-same}
 use Rattle.laws.proofs.Records.{blocks_of_at, blocks_of_outside, pages_of_at, block_at_bad, block_at_good}
-use Rattle.blocks.specs.Leading.{blank_from, start_of, Begins, is_next, InOrder, Leads}
-use Rattle.blocks.specs.Scanned.{Scanned, use_at, uses_of}
+use Rattle.blocks.specs.Leading.{blank_from, start_of, Begins, InOrder, Leads}
+use Rattle.blocks.specs.Scanned.{of_card, use_at, uses_of}
 use Rattle.blocks.proofs.Leading.{blank_past, past_blank, leading_alone, leading_ill, start_begins, Begun, begun_first, begun_order}
 
 -- ---- a block
 
-module _ (s : Shape) (bytes spare : List ℕ) (b : ℕ) where
-  pub block_bad : is_bad s (image_of bytes spare) b ≡ true → not_used Bad ≡ block_at s (image_of bytes spare) b
-  block_bad e = sym (block_at_bad s (image_of bytes spare) b (true_is (is_bad s (image_of bytes spare) b) e))
+module _ (s : Shape) (im : Image) (b : ℕ) where
+  pub block_bad : is_bad s im b ≡ true → not_used Bad ≡ block_at s im b
+  block_bad e = sym (block_at_bad s im b (true_is (is_bad s im b) e))
 
   -- its leading pages x; r says whether no page comes after them
-  module _ {x : Block} (d : Leads s (pages_of s (image_of bytes spare) b) x) {r : Bool} (told : r ≡ blank_from s (pages_of s (image_of bytes spare) b) x.filled)
-      (good : is_bad s (image_of bytes spare) b ≡ false) where
-    as_good : good_block s (pages_of s (image_of bytes spare) b) ≡ block_at s (image_of bytes spare) b
-    as_good = sym (block_at_good s (image_of bytes spare) b (false_is (is_bad s (image_of bytes spare) b) good))
+  module _ {x : Block} (d : Leads s (pages_of s im b) x) {r : Bool} (told : r ≡ blank_from s (pages_of s im b) x.filled)
+      (good : is_bad s im b ≡ false) where
+    as_good : good_block s (pages_of s im b) ≡ block_at s im b
+    as_good = sym (block_at_good s im b (false_is (is_bad s im b) good))
 
-    pub block_leading : r ≡ true → x ≡ block_at s (image_of bytes spare) b
-    block_leading e = leading_alone s (pages_of s (image_of bytes spare) b) d (true_is _ (sym told ∙ e)) ∙ as_good
+    pub block_leading : r ≡ true → x ≡ block_at s im b
+    block_leading e = leading_alone s (pages_of s im b) d (true_is _ (sym told ∙ e)) ∙ as_good
 
-    pub block_ill : r ≡ false → not_used Ill ≡ block_at s (image_of bytes spare) b
-    block_ill e = leading_ill s (pages_of s (image_of bytes spare) b) d (false_is _ (sym told ∙ e)) ∙ as_good
+    pub block_ill : r ≡ false → not_used Ill ≡ block_at s im b
+    block_ill e = leading_ill s (pages_of s im b) d (false_is _ (sym told ∙ e)) ∙ as_good
 
 -- what the first page of a block gives
-pub first_page : (s : Shape) (im : Image) (b : ℕ) {p : ℕ} {q : Page} {x : Block} → 0 < s.pages → p ≡ page_no s b 0 → q ≡ page_at im p → x ≡ start_of s q
-    → Begins s (pages_of s im b) x
+pub first_page : (s : Shape) (im : Image) (b : ℕ) {p : ℕ} {q : Page} {o : Option First} → 0 < s.pages → p ≡ page_no s b 0 → q ≡ page_at im p
+    → o ≡ start_of s q → Begins s (pages_of s im b) o
 unfolding page_at
 first_page s im b h e f g =
     let here = pages_of_at s im b 0 h in
     start_begins s (pages_of s im b) _ _ here (g ∙ ap (start_of s) (f ∙ ap (page_at im) e ∙ sym here))
 
--- the spare bytes of page i of a block, lent as &spare[at..at + 16]
-pub spare_lent : (s : Shape) (spare : List ℕ) (b i : ℕ) {p at : ℕ} → p ≡ page_no s b i → at ≡ p * 16
-    → take ((at + 16) - at) (drop at spare) ≡ part spare (page_no s b i * 16) 16
-spare_lent s spare b i {p} {at} e f = part_lent spare at 16 ∙ ap (λ (k : ℕ). part spare k 16) (f ∙ ap (λ (k : ℕ). k * 16) e)
-
--- the page that has them
-pub page_lent : (s : Shape) (bytes spare : List ℕ) (b i : ℕ) {p at : ℕ} → i < s.pages → p ≡ page_no s b i → at ≡ p * 16
-    → pages_of s (image_of bytes spare) b i ≡ page_of (part bytes (page_no s b i * 512) 512) (take ((at + 16) - at) (drop at spare))
+-- page i of a block, whose number is p
+pub page_read : (s : Shape) (im : Image) (b i : ℕ) {p : ℕ} → i < s.pages → p ≡ page_no s b i → pages_of s im b i ≡ page_of (page_bytes im p) (page_spare im p)
 unfolding page_at
-page_lent s bytes spare b i h e f =
-    pages_of_at s (image_of bytes spare) b i h ∙ ap (page_of (part bytes (page_no s b i * 512) 512)) (sym (spare_lent s spare b i e f))
+page_read s im b i h e = pages_of_at s im b i h ∙ ap (page_at im) (sym e)
 
 -- the pages of a block that come first in order
-pub order_begun : (s : Shape) (bytes spare : List ℕ) (b : ℕ) {x : Block} {n : ℕ} → Within s (length bytes) (length spare) → b < s.blocks
-    → Begins s (pages_of s (image_of bytes spare) b) x → (x.filled ≡ 0 → ⊥) → InOrder s spare b x n
-    → Begun s (pages_of s (image_of bytes spare) b) x n x.ordered
-unfolding page_at
-order_begun s bytes spare b w h u f =
-    begun_order s w.limits (pages_of s (image_of bytes spare) b) spare b (λ i. part bytes (page_no s b i * 512) 512)
-    (λ i k. let below = page_no_below s b i h k in part_length spare (page_no s b i * 16) 16 (omega (arith, w.spares_long)))
-    (λ i k. pages_of_at s (image_of bytes spare) b i k) (begun_first s (pages_of s (image_of bytes spare) b) u f)
-
-pub next_told : (s : Shape) (spare : List ℕ) (b : ℕ) (x : Block) (i : ℕ) {p at : ℕ} {r : Bool} → p ≡ page_no s b i → at ≡ p * 16
-    → r ≡ is_entry_of (take ((at + 16) - at) (drop at spare)) x.number x.kind (logical_page s x.logical i) → r ≡ is_next s spare b x i
-next_told s spare b x i e f told =
-    told ∙ ap (λ (t : List ℕ). is_entry_of t x.number x.kind (logical_page s x.logical i)) (spare_lent s spare b i e f)
+pub order_begun : (s : Shape) (im : Image) (b : ℕ) {x : First} {n : ℕ} → Fits s im → b < s.blocks → Begins s (pages_of s im b) (Some x)
+    → InOrder s im b x n → Begun s (pages_of s im b) x n x.ordered
+order_begun s im b w h u =
+    begun_order s w.limits (pages_of s im b) im b (λ i. page_bytes im (page_no s b i))
+    (λ i k. let below = page_no_below s b i h k in part_length im.spare (page_no s b i * 16) 16 (omega (arith, w.spares_long)))
+    (λ i k. page_read s im b i k refl) (begun_first s (pages_of s im b) u)
 
 -- ---- whether it is erased, from page n on
 
@@ -129,48 +113,42 @@ use_told s im f e j =
 
 -- ---- all blocks
 
--- the array after b blocks, with the records f 0, f 1, ..: their words, in each of which its record is read again
-pub record ScannedTo (f : ℕ → Block) (list : List ℕ) (b : ℕ) : Type 0 where
-  pub stored : StoredTo (λ j. packed (f j)) 0 list b
-  pub back : (j : ℕ) → j < b → unpacked (packed (f j)) ≡ f j
+-- the first n of them read into a list, and no block after them
+pub record ReadTo (c : Blocks) (list : List Block) (n : ℕ) : Type 0 where
+  pub long : length list ≡ most
+  pub at : (j : ℕ) → j < n → get_or list j (not_used Bad) ≡ c j
+  pub after : (j : ℕ) → n ≤ j → get_or list j (not_used Bad) ≡ not_used Bad
 
-pub scanned_none : (f : ℕ → Block) {list : List ℕ} → list ≡ replicate most 0 → ScannedTo f list 0
-scanned_none f e = record { stored = stored_none (λ j. packed (f j)) 0 e; back = λ j h. absurd (omega arith) }
-
-pub scanned_more : (f : ℕ → Block) (list : List ℕ) (b : ℕ) {x : Block} {w : ℕ} → b < most → x.logical < 65536 → x.filled < 256 → Kinded x
-    → ScannedTo f list b → x ≡ f b → w ≡ packed x → ScannedTo f (set list b w) (b + 1)
-scanned_more f list b {x} {w} few h k kinded t e g =
+pub read_more : (c : Blocks) (list : List Block) (n : ℕ) {x : Block} → n < most → x ≡ c n → ReadTo c list n → ReadTo c (set list n x) (n + 1)
+read_more c list n {x} h e t =
     record {
-      stored = stored_more (λ j. packed (f j)) 0 list b few t.stored (g ∙ ap packed e);
-      back = λ j q. elim (dec_eq j b) [
-        | inl r ↦ rw r (subst (λ (y : Block). unpacked (packed y) ≡ y) e (unpacked-packed x h k kinded))
-        | inr r ↦ t.back j (omega arith)
+      long = length-set list n x ∙ t.long;
+      at = λ j k. elim (dec_eq j n) [
+        | inl q ↦ rw q (get_or-set_same list n x _ (omega (arith, t.long)) ∙ e)
+        | inr q ↦ get_or-set_other list n j x _ q ∙ t.at j (omega arith)
       ];
+      after = λ j k. get_or-set_other list n j x _ (λ q. absurd (omega arith)) ∙ t.after j (omega arith);
     }
 
--- the records c are those, and bad past the last
-pub scanned_all : (f : ℕ → Block) (c : Blocks) (n : ℕ) → ((j : ℕ) → j < n → c j ≡ f j) → ((j : ℕ) → n ≤ j → c j ≡ not_used Bad)
-    → (list : List ℕ) (b : ℕ) → b ≡ n → ScannedTo f list b → Scanned c list
-scanned_all f c n own outside list b z t =
-    record { words = list_below_ext most (λ j. packed (c j)) 0 t.stored.long (λ j h. word j); records = fun_ext at }
-  where
-    word : (j : ℕ) → get_or list j 0 ≡ packed (c j)
-    word j =
-        elim (lt_or_le j n) [
-          | inl h ↦ t.stored.stored j (omega arith) ∙ ap packed (sym (own j h))
-          | inr h ↦ t.stored.rest j (omega arith) ∙ sym packed_bad ∙ ap packed (sym (outside j h))
-        ]
+pub read_all : (c : Blocks) (list : List Block) {n m : ℕ} → n ≡ m → ReadTo c list n → blocks_in list ≡ of_card m c
+read_all c list {n} {m} e t =
+    fun_ext (λ j. elim (lt_or_le j m) [
+      | inl h ↦ t.at j (omega arith) ∙ rw (lt-ltb j m h) refl
+      | inr h ↦ t.after j (omega arith) ∙ rw (le-ltb j m h) refl
+    ])
 
-    at : (j : ℕ) → records_in list j ≡ c j
-    at j =
-        ap unpacked (word j)
-        ∙ elim (lt_or_le j n) [
-          | inl h ↦ rw (own j h) (t.back j (omega arith))
-          | inr h ↦ rw (outside j h, packed_bad) unpacked-zero
-        ]
+-- the records of a card
+pub records_read : (s : Shape) (im : Image) → of_card s.blocks (block_at s im) ≡ blocks_of s im
+records_read s im =
+    fun_ext (λ j. elim (lt_or_le j s.blocks) [
+      | inl h ↦ rw (lt-ltb j s.blocks h) (sym (blocks_of_at s im j h))
+      | inr h ↦ rw (le-ltb j s.blocks h) (sym (blocks_of_outside s im j h))
+    ])
 
--- of what format asks
-pub uses_all : (s : Shape) (im : Image) (list : List ℕ) (b : ℕ) → b ≡ s.blocks → ScannedTo (λ j. not_used (use_at s im j)) list b
-    → Scanned (uses_of s im) list
-uses_all s im =
-    scanned_all (λ j. not_used (use_at s im j)) (uses_of s im) s.blocks (λ j h. rw (lt-ltb j s.blocks h) refl) (λ j h. rw (le-ltb j s.blocks h) refl)
+-- what format asks of each
+pub uses_read : (s : Shape) (im : Image) → of_card s.blocks (λ b. not_used (use_at s im b)) ≡ uses_of s im
+uses_read s im =
+    fun_ext (λ j. elim (lt_or_le j s.blocks) [
+      | inl h ↦ rw (lt-ltb j s.blocks h) refl
+      | inr h ↦ rw (le-ltb j s.blocks h) refl
+    ])

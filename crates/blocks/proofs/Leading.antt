@@ -1,6 +1,6 @@
 -- The leading pages of a block: which they are, and that with the others erased they give the block its record.
 use mathlib.Core.Path.{◌≡◌, refl, sym, ap, subst, ◌∙◌}
-use mathlib.Core.Logic.{◌⊎◌, inl, inr}
+use mathlib.Core.Logic.{inl, inr}
 use mathlib.Core.Bool.{Bool, true, false, not, ◌&&◌, ◌||◌, and-true, and-false}
 use mathlib.Core.List.{List, [], ◌∷◌}
 use Prim.Native.Nat.{ℕ, ◌+◌, ◌-◌, ◌*◌, ◌≤◌, ◌<◌}
@@ -9,26 +9,28 @@ use lib.Dec.{T, T_not, not_T, leb, ltb, eqb, eqb→eq, le→leb, leb→le, lt→
 use lib.ListN.{length}
 use borrow.Author.Tests.{eq-eqb, ne_eqb}
 use Rattle.rules.specs.declared.shape.Shape.{Shape}
+use Rattle.std.specs.Prelude.{Option, Some, None, MatchOption, ⊤}
+use Rattle.rules.specs.declared.kind.Kind.{Kind}
 use Rattle.rules.specs.declared.page.Page.{Page}
 use Rattle.rules.specs.declared.page.Page.TheVariants.{Erased, Entry, Junk}
 use Rattle.rules.specs.declared.block.State.TheVariants.{Free, Ill}
 use Rattle.rules.specs.declared.block.Block.{Block}
+use Rattle.blocks.specs.declared.record.First.{First}
 use Rattle.rules.specs.Below.{all_below}
 use Rattle.rules.specs.Facts.{Limits}
-use Rattle.rules.specs.Spare.{copy_kind, number_in, kind_in, address_in, in_table}
-use Rattle.rules.specs.Bytes.{part}
+use Rattle.rules.specs.Spare.{kind_byte, kind_for, number_in, kind_in, address_in, in_table}
 use Rattle.rules.specs.Shape.{page_no, block_of, offset_of, logical_page, in_range}
-use Rattle.rules.specs.Page.{page_of, is_erased, is_entry, number_of, kind_of, address_of}
+use Rattle.rules.specs.Page.{Image, page_spare, page_of, is_erased, is_entry, number_of, kind_of, address_of, is_copy, same_kind}
 use Rattle.rules.specs.WellFormed.{naming, Pages, Rule, W1, W2, W3, W4, W1to4, not_used, all_erased, filled_in, in_order, good_block}
-use Rattle.nand.specs.Entries.{is_entry_of}
+use Rattle.nand.specs.Entries.{OfTable, is_entry_of}
 use Rattle.laws.proofs.Tests.{tcase, dec_eq, lt_or_le, true_is, is_true, is_false, false_is, bool_ext, and_l, and_r, and_i, or_l, or_r, or_e, eq→eqb, nlt→ltb, cond_yes, cond_no, each_chain, chain_each}
 use Rattle.laws.proofs.Below.{all_below_at, all_below_all, all_turn, count_below_prefix}
 use Rattle.laws.proofs.Shape.{logical_page_of, offset_of_below, in_range_block, block_in_range, logical_page_block}
-use Rattle.laws.proofs.Pages.{is_erased_is, is_entry_is, page_of-in_table, page_of-is_entry}
+use Rattle.laws.proofs.Pages.{is_erased_is, is_entry_is, is_same_kind, page_of-in_table, page_of-is_entry}
 use Rattle.laws.proofs.Filled.{free_good_block}
 use Rattle.laws.proofs.Records.{good_block_cases, rules_e, W1_before, W2_entry}
-use Rattle.laws.proofs.Spare.{facts_in_table}
-use Rattle.blocks.specs.Leading.{fits, blank_from, used_to, with_pages, may_start, started, start_of, in_block, goes_on, IsEntry, Begins, InOrder, Leads}
+use Rattle.laws.proofs.Spare.{facts_in_table, kind_for_byte}
+use Rattle.blocks.specs.Leading.{fits, blank_from, used_to, with_pages, may_start, started, start_of, in_block, goes_on, Begins, InOrder, Leads}
 
 -- ---- a page that fits
 
@@ -96,7 +98,7 @@ module _ (s : Shape) (g : Pages) {x : Block} (d : Leads s g x) where
         )
       where
         no_copy : Bool
-        no_copy = not (eqb (kind_of (naming g)) copy_kind)
+        no_copy = not (is_copy (kind_of (naming g)))
 
     filled_are : filled_in s g ≡ x.filled
     filled_are =
@@ -147,90 +149,72 @@ module _ (s : Shape) (g : Pages) {x : Block} (d : Leads s g x) where
 -- ---- the first page
 
 -- what a page that may be the first says
-pub record Named (s : Shape) (q : Page) (x : Block) : Type 0 where
+pub record Named (s : Shape) (q : Page) (x : First) : Type 0 where
   pub n : ℕ
-  pub k : ℕ
+  pub k : Kind
   pub a : ℕ
   pub page : q ≡ Entry n k a
   pub may : T (may_start s k a)
   pub is : x ≡ started s n k a
 
--- the page may be the first, and x has one page; or it may not, and x is free
-start_cases : (s : Shape) (q : Page) {x : Block} → x ≡ start_of s q
-    → Named s q x ⊎ ((x ≡ not_used Free) × ((n k a : ℕ) → q ≡ Entry n k a → T (may_start s k a) → ⊥))
-unfolding start_of
-start_cases s Erased e = inr (e, λ n k a f t. subst (λ (q : Page). T (is_erased q)) f tt)
-start_cases s Junk e = inr (e, λ n k a f t. subst (λ (q : Page). T (not (is_entry q))) f tt)
-start_cases s (Entry n k a) e =
+given : First → Option First → First
+given d None = d
+given d (Some x) = x
+
+none_some : {x : First} → Some x ≡ None → ⊥
+none_some e = subst (λ (o : Option First). MatchOption o ⊥ (λ _. ⊤)) e tt
+
+-- x is what it gives
+start_some : (s : Shape) (q : Page) {x : First} → Some x ≡ start_of s q → Named s q x
+unfolding start_of given
+start_some s Erased e = absurd (none_some e)
+start_some s Junk e = absurd (none_some e)
+start_some s (Entry n k a) {x} e =
     elim (tcase (may_start s k a)) [
-      | inl t ↦ inl (record { n = n; k = k; a = a; page = refl; may = t; is = e ∙ cond_yes (may_start s k a) _ _ t })
-      | inr t ↦ inr (e ∙ cond_no (may_start s k a) _ _ (T_not (may_start s k a) t), λ n' k' a' f u. T_not (may_start s k a) t (same f u))
+      | inl t ↦ record { n = n; k = k; a = a; page = refl; may = t; is = ap (given x) (e ∙ cond_yes (may_start s k a) _ _ t) }
+      | inr t ↦ absurd (none_some (e ∙ cond_no (may_start s k a) _ _ (T_not (may_start s k a) t)))
     ]
-  where
-    same : {n' k' a' : ℕ} → Entry n k a ≡ Entry n' k' a' → T (may_start s k' a') → T (may_start s k a)
-    same f u = subst (λ (q : Page). T (may_start s (kind_of q) (address_of q))) (sym f) u
+
+-- It gives none, and may not be the first.
+start_none : (s : Shape) (q : Page) → None ≡ start_of s q → {n : ℕ} {k : Kind} {a : ℕ} → q ≡ Entry n k a → T (may_start s k a) → ⊥
+unfolding start_of
+start_none s q e {n} {k} {a} f t = none_some (sym (e ∙ ap (start_of s) f ∙ cond_yes (may_start s k a) _ _ t))
 
 module _ (s : Shape) (g : Pages) where
   -- as the first page of its block
-  fits_first : {n k a : ℕ} → naming g ≡ Entry n k a → fits s g 0 ≡ may_start s k a
+  fits_first : {n : ℕ} {k : Kind} {a : ℕ} → naming g ≡ Entry n k a → fits s g 0 ≡ may_start s k a
   unfolding fits W2 W3 W4
-  fits_first {n} {k} {a} e = rw (e, eq-eqb k k refl, eq-eqb n n refl, eq-eqb (block_of s a) (block_of s a) refl, and-true (in_range s a)) refl
+  fits_first {n} {k} {a} e =
+      rw (e, eq-eqb (kind_byte k) (kind_byte k) refl, eq-eqb n n refl, eq-eqb (block_of s a) (block_of s a) refl, and-true (in_range s a)) refl
 
   -- none leads
-  pub none_leading : {x : Block} → Begins s g x → x.filled ≡ 0 → Leads s g x
-  none_leading {x} e z =
-      elim (start_cases s (naming g) e.is) [
-        | inl m ↦ absurd (let one : x.filled ≡ 1 = ap (λ (y : Block). y.filled) m.is in omega arith)
-        | inr m ↦ record {
-          few = omega arith;
-          fit = λ i h. absurd (omega arith);
-          last = λ h t. unfit m (subst (λ (i : ℕ). T (fits s g i)) z t);
-          is = m.0 ∙ rw (eq-eqb x.filled 0 z) refl;
-        }
-      ]
+  pub none_leading : {y : Block} → Begins s g None → y ≡ not_used Free → Leads s g y
+  none_leading {y} u e =
+      let z : y.filled ≡ 0 = ap (λ (y : Block). y.filled) e in
+      record {
+        few = omega arith;
+        fit = λ i h. absurd (omega arith);
+        last = λ h t. unfit (subst (λ (i : ℕ). T (fits s g i)) z t);
+        is = e ∙ rw (eq-eqb y.filled 0 z) refl;
+      }
     where
-      unfit : {x : Block} → (x ≡ not_used Free) × ((n k a : ℕ) → naming g ≡ Entry n k a → T (may_start s k a) → ⊥) → T (fits s g 0) → ⊥
-      unfit m t =
-          let e = is_entry_is (naming g) (fits_entry s g 0 t) in
-          m.1 (number_of (naming g)) (kind_of (naming g)) (address_of (naming g)) e (subst T (fits_first e) t)
+      unfit : T (fits s g 0) → ⊥
+      unfit t = let (k, e) = is_entry_is (naming g) (fits_entry s g 0 t) in start_none s (naming g) u.is e (subst T (fits_first e) t)
 
 -- what the first page gives, where its bytes are d and t
-pub start_begins : (s : Shape) (g : Pages) {x : Block} (d t : List ℕ) → naming g ≡ page_of d t → x ≡ start_of s (naming g) → Begins s g x
-start_begins s g {x} d t here e =
-    record {
-      is = e;
-      entry = λ f. elim (start_cases s (naming g) e) [
-        | inl m ↦ table m
-        | inr m ↦ absurd (f (ap (λ (y : Block). y.filled) m.0))
-      ];
-    }
+pub start_begins : (s : Shape) (g : Pages) {o : Option First} (d t : List ℕ) → naming g ≡ page_of d t → o ≡ start_of s (naming g) → Begins s g o
+start_begins s g {o} d t here e = record { is = e; of_table = go o e }
   where
-    table : {x : Block} → Named s (naming g) x → IsEntry x
+    table : {x : First} → Named s (naming g) x → OfTable x.number
     table {x} m =
         let entry : T (is_entry (page_of d t)) = subst (λ (p : Page). T (is_entry p)) (sym m.page ∙ here) tt in
         let (f, same) = page_of-is_entry d t entry in
-        let whole : Entry m.n m.k m.a ≡ Entry (number_in t) (kind_in t) (address_in t) = sym m.page ∙ here ∙ same in
-        let n : x.number ≡ number_in t = ap (λ (y : Block). y.number) m.is ∙ ap number_of whole in
-        let k : x.kind ≡ kind_in t = ap (λ (y : Block). y.kind) m.is ∙ ap kind_of whole in
-        record { low = rw n f.number_low; high = rw n f.number_high; kind = rw k f.kind }
+        let n : x.number ≡ number_in t = ap (λ (y : First). y.number) m.is ∙ ap number_of (sym m.page ∙ here ∙ same) in
+        record { low = rw n f.number_low; high = rw n f.number_high }
 
--- the cases of start_of, as `start` comes to them
-module _ (s : Shape) {q : Page} {r : Block} where
-  pub start_of-erased : q ≡ Erased → r ≡ not_used Free → r ≡ start_of s q
-  unfolding start_of
-  start_of-erased e f = f ∙ ap (start_of s) (sym e)
-
-  pub start_of_junk : q ≡ Junk → r ≡ not_used Free → r ≡ start_of s q
-  unfolding start_of
-  start_of_junk e f = f ∙ ap (start_of s) (sym e)
-
-  pub start_of_may : {n k a : ℕ} {t : Bool} → q ≡ Entry n k a → t ≡ may_start s k a → t ≡ true → r ≡ started s n k a → r ≡ start_of s q
-  unfolding start_of
-  start_of_may {k = k} {a} e m t f = f ∙ sym (ap (start_of s) e ∙ cond_yes (may_start s k a) _ _ (true_is (may_start s k a) (sym m ∙ t)))
-
-  pub start_of_not : {n k a : ℕ} {t : Bool} → q ≡ Entry n k a → t ≡ may_start s k a → t ≡ false → r ≡ not_used Free → r ≡ start_of s q
-  unfolding start_of
-  start_of_not {k = k} {a} e m t f = f ∙ sym (ap (start_of s) e ∙ cond_no (may_start s k a) _ _ (false_is (may_start s k a) (sym m ∙ t)))
+    go : (o : Option First) → o ≡ start_of s (naming g) → MatchOption o ⊤ (λ x. OfTable x.number)
+    go None f = tt
+    go (Some x) f = table (start_some s (naming g) f)
 
 -- ---- a later page
 
@@ -268,7 +252,7 @@ module _ (s : Shape) (l : Limits s) (b : ℕ) (below : b < s.logical) (c i : ℕ
       ]
 
 -- page i, with spare bytes t; x is what the first page gives
-module _ (s : Shape) (l : Limits s) (g : Pages) {x : Block} (m : Named s (naming g) x) (i : ℕ) (d t : List ℕ) (long : length t ≡ 16)
+module _ (s : Shape) (l : Limits s) (g : Pages) {x : First} (m : Named s (naming g) x) (i : ℕ) (d t : List ℕ) (long : length t ≡ 16)
     (here : g i ≡ page_of d t) where
   below : block_of s m.a < s.logical
   below = in_range_block s l m.a (and_l (in_range s m.a) _ m.may)
@@ -277,9 +261,10 @@ module _ (s : Shape) (l : Limits s) (g : Pages) {x : Block} (m : Named s (naming
   entry_fits : T (in_table t) → goes_on s x i t ≡ fits s g i
   unfolding goes_on fits W2 W3 W4
   entry_fits h =
-      let e : g i ≡ Entry (number_in t) (kind_in t) (address_in t) = here ∙ page_of-in_table d t long h in
+      let e : g i ≡ Entry (number_in t) (kind_for (kind_in t)) (address_in t) = here ∙ page_of-in_table d t long h in
       rw (m.is, e, m.page, is_true (in_table t) h)
-      (sym (in_block_lem s l (block_of s m.a) below (address_in t) i (eqb (kind_in t) m.k && eqb (number_in t) m.n) (not (eqb m.k copy_kind))))
+      (sym (in_block_lem s l (block_of s m.a) below (address_in t) i (same_kind (Some (kind_for (kind_in t))) (Some m.k) && eqb (number_in t) m.n)
+      (not (is_copy (Some m.k)))))
 
   -- other bytes
   other_fits : (T (in_table t) → ⊥) → goes_on s x i t ≡ fits s g i
@@ -301,10 +286,10 @@ module _ (s : Shape) (l : Limits s) (g : Pages) {x : Block} (m : Named s (naming
   unfolding goes_on
   goes_place u =
       let c : ℕ = address_in t in
-      let same : Bool = eqb (kind_in t) x.kind && eqb (number_in t) x.number in
-      let placed : Bool = not (eqb x.kind copy_kind) || eqb c (logical_page s x.logical i) in
+      let same : Bool = same_kind (Some (kind_for (kind_in t))) (Some x.kind) && eqb (number_in t) x.number in
+      let placed : Bool = not (is_copy (Some x.kind)) || eqb c (logical_page s x.logical i) in
       let (h, (_, (inside, _))) = chain_each (in_table t) (same ∷ in_block s x.logical c ∷ placed ∷ []) u in
-      let first : x.logical ≡ block_of s m.a = ap (λ (y : Block). y.logical) m.is in
+      let first : x.logical ≡ block_of s m.a = ap (λ (y : First). y.logical) m.is in
       let small : x.logical < s.logical = subst (λ (b : ℕ). b < s.logical) (sym first) below in
       let own : block_of s c ≡ x.logical = elim (dec_eq (block_of s c) x.logical) [
         | inl e ↦ e
@@ -315,24 +300,24 @@ module _ (s : Shape) (l : Limits s) (g : Pages) {x : Block} (m : Named s (naming
 -- ---- the loop over them
 
 -- x is what the first page gives, the first n pages fit, and o says whether each has its own offset.
-pub record Begun (s : Shape) (g : Pages) (x : Block) (n : ℕ) (o : Bool) : Type 0 where
+pub record Begun (s : Shape) (g : Pages) (x : First) (n : ℕ) (o : Bool) : Type 0 where
   pub named : Named s (naming g) x
   pub fit : (i : ℕ) → i < n → T (fits s g i)
   pub order : o ≡ in_order s g n
 
-pub begun_first : (s : Shape) (g : Pages) {x : Block} → Begins s g x → (x.filled ≡ 0 → ⊥) → Begun s g x 1 x.ordered
+pub begun_first : (s : Shape) (g : Pages) {x : First} → Begins s g (Some x) → Begun s g x 1 x.ordered
 unfolding all_below
-begun_first s g {x} e f =
-    elim (start_cases s (naming g) e.is) [
-      | inl m ↦ record {
-        named = m;
-        fit = λ i h. let z : i ≡ 0 = omega arith in rw z (subst T (sym (fits_first s g m.page)) m.may);
-        order = rw (m.is, m.page) refl;
-      }
-      | inr m ↦ absurd (f (ap (λ (y : Block). y.filled) m.0))
-    ]
+begun_first s g {x} u = go (start_some s (naming g) u.is)
+  where
+    go : Named s (naming g) x → Begun s g x 1 x.ordered
+    go m =
+        record {
+          named = m;
+          fit = λ i h. let z : i ≡ 0 = omega arith in rw z (subst T (sym (fits_first s g m.page)) m.may);
+          order = rw (m.is, m.page) refl;
+        }
 
-pub begun_turn : (s : Shape) (l : Limits s) (g : Pages) {x : Block} (i : ℕ) {o p r : Bool} (d t : List ℕ) → length t ≡ 16 → g i ≡ page_of d t
+pub begun_turn : (s : Shape) (l : Limits s) (g : Pages) {x : First} (i : ℕ) {o p r : Bool} (d t : List ℕ) → length t ≡ 16 → g i ≡ page_of d t
     → Begun s g x i o → T (goes_on s x i t) → p ≡ eqb (address_in t) (logical_page s x.logical i) → r ≡ (o && p) → Begun s g x (i + 1) r
 begun_turn s l g {x} i {o} {p} {r} d t long here u go e f =
     record {
@@ -345,33 +330,37 @@ begun_turn s l g {x} i {o} {p} {r} d t long here u go e f =
     }
 
 -- what is written in order goes on, and has its own offset
-next_goes : (s : Shape) (x : Block) (i : ℕ) (t : List ℕ) → i < s.pages → T (is_entry_of t x.number x.kind (logical_page s x.logical i))
+next_goes : (s : Shape) (x : First) (i : ℕ) (t : List ℕ) → i < s.pages → T (is_entry_of t x.number (kind_byte x.kind) (logical_page s x.logical i))
     → T (goes_on s x i t) × (address_in t ≡ logical_page s x.logical i)
 unfolding is_entry_of goes_on
 next_goes s x i t h u =
     let l : ℕ = x.logical in
     let c : ℕ = address_in t in
-    let kind : Bool = eqb (kind_in t) x.kind in
+    let kind : Bool = eqb (kind_in t) (kind_byte x.kind) in
+    let alike : Bool = same_kind (Some (kind_for (kind_in t))) (Some x.kind) in
     let number : Bool = eqb (number_in t) x.number in
     let placed : Bool = eqb c (logical_page s l i) in
     let (u₀, (u₁, (u₂, (u₃, _)))) = chain_each (in_table t) (number ∷ kind ∷ placed ∷ []) u in
     let e : c ≡ logical_page s l i = eqb→eq c (logical_page s l i) u₃ in
+    let own : T alike =
+    is_same_kind (Some (kind_for (kind_in t))) (Some x.kind)
+    (ap (λ (b : ℕ). Some (kind_for b)) (eqb→eq (kind_in t) (kind_byte x.kind) u₂) ∙ ap Some (kind_for_byte x.kind)) in
     let inside : T (in_block s l c) =
     and_i (leb (l * s.pages) c) (ltb c (l * s.pages + s.pages)) (le→leb (l * s.pages) c (omega arith)) (lt→ltb c (l * s.pages + s.pages) (omega arith)) in (
-      each_chain (in_table t) ((kind && number) ∷ in_block s l c ∷ (not (eqb x.kind copy_kind) || placed) ∷ []) u₀
-          (and_i kind number u₂ u₁, (inside, (or_r (not (eqb x.kind copy_kind)) placed u₃, tt))),
+      each_chain (in_table t) ((alike && number) ∷ in_block s l c ∷ (not (is_copy (Some x.kind)) || placed) ∷ []) u₀
+          (and_i alike number own u₁, (inside, (or_r (not (is_copy (Some x.kind))) placed u₃, tt))),
       e,
     )
 
 -- The first n pages in order, where page i of g has the spare bytes of page i of block b.
-pub begun_order : (s : Shape) (l : Limits s) (g : Pages) {x : Block} (spare : List ℕ) (b : ℕ) {n : ℕ} (d : ℕ → List ℕ)
-    → ((i : ℕ) → i < s.pages → length (part spare (page_no s b i * 16) 16) ≡ 16)
-    → ((i : ℕ) → i < s.pages → g i ≡ page_of (d i) (part spare (page_no s b i * 16) 16))
-    → Begun s g x 1 x.ordered → InOrder s spare b x n → Begun s g x n x.ordered
-begun_order s l g {x} spare b {n} d long here u v = go x.ordered refl
+pub begun_order : (s : Shape) (l : Limits s) (g : Pages) {x : First} (im : Image) (b : ℕ) {n : ℕ} (d : ℕ → List ℕ)
+    → ((i : ℕ) → i < s.pages → length (page_spare im (page_no s b i)) ≡ 16)
+    → ((i : ℕ) → i < s.pages → g i ≡ page_of (d i) (page_spare im (page_no s b i)))
+    → Begun s g x 1 x.ordered → InOrder s im b x n → Begun s g x n x.ordered
+begun_order s l g {x} im b {n} d long here u v = go x.ordered refl
   where
     t : ℕ → List ℕ
-    t i = part spare (page_no s b i * 16) 16
+    t i = page_spare im (page_no s b i)
 
     later : (i : ℕ) → 1 ≤ i → i < n → T (fits s g i) × T (eqb (offset_of s (address_of (g i))) i)
     later i low below =
@@ -393,12 +382,12 @@ begun_order s l g {x} spare b {n} d long here u v = go x.ordered refl
           ])));
         }
 
-pub begun_ends : (s : Shape) (g : Pages) {x y : Block} (n : ℕ) {o : Bool} → 1 ≤ n → n ≤ s.pages → Begun s g x n o
+pub begun_ends : (s : Shape) (g : Pages) {x : First} {y : Block} (n : ℕ) {o : Bool} → 1 ≤ n → n ≤ s.pages → Begun s g x n o
     → (n < s.pages → T (fits s g n) → ⊥) → y ≡ with_pages x n o → Leads s g y
 begun_ends s g {x} {y} n {o} low few u last e =
     let m = u.named in
     let f : y.filled ≡ n = ap (λ (z : Block). z.filled) e in
-    let k : kind_of (naming g) ≡ x.kind = rw (m.page, m.is) refl in
+    let k : kind_of (naming g) ≡ Some x.kind = rw (m.page, m.is) refl in
     let b : number_of (naming g) ≡ x.number = rw (m.page, m.is) refl in
     let l : block_of s (address_of (naming g)) ≡ x.logical = rw (m.page, m.is) refl in
     record {

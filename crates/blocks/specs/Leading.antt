@@ -1,15 +1,16 @@
 -- The record of a block by its leading pages: those that come first and go on from each other.
-use Rattle.std.specs.Prelude.{◌≡◌, Bool, true, false, ◌&&◌, ◌||◌, not, cond, List, ℕ, ◌+◌, ◌*◌, ◌≤◌, ◌<◌, T, leb, ltb, eqb}
+use Rattle.std.specs.Prelude.{◌≡◌, ⊤, Option, Some, None, MatchOption, Bool, true, false, ◌&&◌, ◌||◌, not, cond, List, ℕ, ◌+◌, ◌*◌, ◌≤◌, ◌<◌, T, leb, ltb, eqb}
 use Rattle.rules.specs.declared.shape.Shape.{Shape}
+use Rattle.rules.specs.declared.kind.Kind.{Kind}
 use Rattle.rules.specs.declared.page.Page.{Page}
 use Rattle.rules.specs.declared.page.Page.TheVariants.{Erased, Entry, Junk}
 use Rattle.rules.specs.declared.block.State.TheVariants.{Free, Used}
 use Rattle.rules.specs.declared.block.Block.{Block}
+use Rattle.blocks.specs.declared.record.First.{First}
 use Rattle.rules.specs.Below.{all_below}
-use Rattle.rules.specs.Bytes.{part}
-use Rattle.rules.specs.Spare.{copy_kind, number_in, kind_in, address_in, in_table}
+use Rattle.rules.specs.Spare.{kind_byte, kind_for, number_in, kind_in, address_in, in_table}
 use Rattle.rules.specs.Shape.{page_no, block_of, offset_of, logical_page, in_range}
-use Rattle.rules.specs.Page.{is_erased, number_of, kind_of, address_of}
+use Rattle.rules.specs.Page.{Image, page_spare, is_erased, number_of, kind_of, address_of, is_copy, same_kind}
 use Rattle.rules.specs.WellFormed.{naming, Pages, W2, W3, W4, not_used, in_order}
 use Rattle.nand.specs.Entries.{OfTable, is_entry_of}
 
@@ -35,23 +36,24 @@ used_to s g n =
       ordered = in_order s g n;
     }
 
--- the record that x has begun, with n pages
-abbrev pub with_pages : Block → ℕ → Bool → Block
-with_pages x n o = record { state = Used; kind = x.kind; number = x.number; logical = x.logical; filled = n; ordered = o }
+-- the record of a block whose first page gives x, with n pages
+abbrev pub with_pages : First → ℕ → Bool → Block
+with_pages x n o = record { state = Used; kind = Some x.kind; number = x.number; logical = x.logical; filled = n; ordered = o }
 
 -- ---- the first page
 
 -- as the first page of its block, one of kind k with logical page a passes W2 to W4
-abbrev pub may_start : Shape → ℕ → ℕ → Bool
-may_start s k a = in_range s a && (not (eqb k copy_kind) || eqb (offset_of s a) 0)
+abbrev pub may_start : Shape → Kind → ℕ → Bool
+may_start s k a = in_range s a && (not (is_copy (Some k)) || eqb (offset_of s a) 0)
 
-abbrev pub started : Shape → ℕ → ℕ → ℕ → Block
-started s n k a = record { state = Used; kind = k; number = n; logical = block_of s a; filled = 1; ordered = eqb (offset_of s a) 0 }
+abbrev pub started : Shape → ℕ → Kind → ℕ → First
+started s n k a = record { number = n; kind = k; logical = block_of s a; ordered = eqb (offset_of s a) 0 }
 
-unfoldable pub start_of : Shape → Page → Block
-start_of s Erased = not_used Free
-start_of s (Entry n k a) = cond (may_start s k a) (started s n k a) (not_used Free)
-start_of s Junk = not_used Free
+-- what it gives its block, if it may be the first
+unfoldable pub start_of : Shape → Page → Option First
+start_of s Erased = None
+start_of s (Entry n k a) = cond (may_start s k a) (Some (started s n k a)) None
+start_of s Junk = None
 
 -- ---- a later page, at place i, with spare bytes t
 
@@ -59,34 +61,30 @@ start_of s Junk = not_used Free
 abbrev pub in_block : Shape → ℕ → ℕ → Bool
 in_block s l a = leb (l * s.pages) a && ltb a (l * s.pages + s.pages)
 
-unfoldable pub goes_on : Shape → Block → ℕ → List ℕ → Bool
+unfoldable pub goes_on : Shape → First → ℕ → List ℕ → Bool
 goes_on s x i t =
-    in_table t && (eqb (kind_in t) x.kind && eqb (number_in t) x.number)
+    in_table t && (same_kind (Some (kind_for (kind_in t))) (Some x.kind) && eqb (number_in t) x.number)
     && in_block s x.logical (address_in t)
-    && (not (eqb x.kind copy_kind) || eqb (address_in t) (logical_page s x.logical i))
+    && (not (is_copy (Some x.kind)) || eqb (address_in t) (logical_page s x.logical i))
 
 -- ---- pages in order
 
--- x has a number and a kind of the table
-abbrev pub IsEntry : Block → Type 0
-IsEntry x = OfTable x.number x.kind
+-- o is what the first page gives, its number one of the table
+pub record Begins (s : Shape) (g : Pages) (o : Option First) : Type 0 where
+  pub is : o ≡ start_of s (naming g)
+  pub of_table : MatchOption o ⊤ (λ x. OfTable x.number)
 
--- x is what the first page gives
-pub record Begins (s : Shape) (g : Pages) (x : Block) : Type 0 where
-  pub is : x ≡ start_of s (naming g)
-  pub entry : (x.filled ≡ 0 → ⊥) → IsEntry x
-
--- page i of block b has the spare bytes of the one at offset i in the block that x has begun
-abbrev pub is_next : Shape → List ℕ → ℕ → Block → ℕ → Bool
-is_next s spare b x i = is_entry_of (part spare (page_no s b i * 16) 16) x.number x.kind (logical_page s x.logical i)
+-- page i of block b has the spare bytes of the one at offset i in the block whose first page gives x
+abbrev pub is_next : Shape → Image → ℕ → First → ℕ → Bool
+is_next s im b x i = is_entry_of (page_spare im (page_no s b i)) x.number (kind_byte x.kind) (logical_page s x.logical i)
 
 -- n pages come first in order, if page 0 does; else n is 1
-pub record InOrder (s : Shape) (spare : List ℕ) (b : ℕ) (x : Block) (n : ℕ) : Type 0 where
+pub record InOrder (s : Shape) (im : Image) (b : ℕ) (x : First) (n : ℕ) : Type 0 where
   pub some : 1 ≤ n
   pub few : n ≤ s.pages
   pub alone : x.ordered ≡ false → n ≡ 1
-  pub next : (i : ℕ) → 1 ≤ i → i < n → T (is_next s spare b x i)
-  pub last : x.ordered ≡ true → n < s.pages → T (is_next s spare b x n) → ⊥
+  pub next : (i : ℕ) → 1 ≤ i → i < n → T (is_next s im b x i)
+  pub last : x.ordered ≡ true → n < s.pages → T (is_next s im b x n) → ⊥
 
 -- ---- the leading pages
 

@@ -1,27 +1,21 @@
--- What the scan of a card finds.
-use Rattle.std.specs.Prelude.{◌≡◌, Bool, cond, List, ℕ, ltb}
+-- What is read of each block of a card, and what format asks of it.
+use Rattle.std.specs.Prelude.{◌≡◌, cond, ℕ, ◌<◌, ltb}
 use Rattle.rules.specs.declared.shape.Shape.{Shape}
 use Rattle.rules.specs.declared.block.State.{State}
 use Rattle.rules.specs.declared.block.State.TheVariants.{Bad, Free, Ill}
+use Rattle.rules.specs.declared.block.Block.{Block}
 use Rattle.rules.specs.Page.{Image}
-use Rattle.rules.specs.Facts.{image_of}
-use Rattle.rules.specs.WellFormed.{Blocks, not_used, all_erased, is_marked, is_bad, pages_of}
-use Rattle.words.specs.Words.{records_in, words_of}
+use Rattle.rules.specs.WellFormed.{Blocks, not_used, all_erased, is_bad, pages_of}
 
--- r says whether page i of block b carries the mark, whatever the data bytes are
-abbrev pub TellsMark : Shape → List ℕ → ℕ → ℕ → Bool → Type 0
-TellsMark s spare b i r = (bytes : List ℕ) → r ≡ is_marked s (image_of bytes spare) b i
+-- Of each block below n, c is what is read.
+abbrev pub Reads : (ℕ → Block → Type 0) → ℕ → Blocks → Type 0
+Reads told n c = (b : ℕ) (x : Block) → b < n → told b x → x ≡ c b
 
--- whether block b is bad
-abbrev pub TellsBad : Shape → List ℕ → ℕ → Bool → Type 0
-TellsBad s spare b r = (bytes : List ℕ) → r ≡ is_bad s (image_of bytes spare) b
+-- c below n, and what is no block of the card counts as bad
+abbrev pub of_card : ℕ → Blocks → Blocks
+of_card n c j = cond (ltb j n) (c j) (not_used Bad)
 
--- the word of each block, in which its record is read again
-pub record Scanned (c : Blocks) (list : List ℕ) : Type 0 where
-  pub words : list ≡ words_of c
-  pub records : records_in list ≡ c
-
--- what format asks of a block: bad, free, or in use. No rule is looked at, so that one in use stands as ill.
+-- bad, free, or in use. No rule is looked at, so that one in use stands as ill.
 abbrev pub use_at : Shape → Image → ℕ → State
 use_at s im b = cond (is_bad s im b) Bad (cond (all_erased s (pages_of s im b)) Free Ill)
 

@@ -1,158 +1,144 @@
 // The records of a card, read in one scan.
-ghost use Rattle.std.specs.Prelude.{◌≡◌, ◌*◌, ◌≤◌, ◌<◌, length, replicate};
-ghost use Rattle.rules.specs.Shape.{most};
-ghost use Rattle.rules.specs.Facts.{Limits, Within, image_of};
-ghost use Rattle.rules.specs.WellFormed.{pages_of, block_at, blocks_of};
-ghost use Rattle.blocks.specs.Leading.{blank_from, IsEntry, Begins, InOrder, Leads};
-ghost use Rattle.blocks.specs.Scanned.{TellsMark, TellsBad, Scanned, use_at, uses_of};
+ghost use Rattle.std.specs.Prelude.{◌≡◌, ◌≤◌, ◌<◌, ℕ};
+ghost use Rattle.rules.specs.WellFormed.{Blocks, is_marked, is_bad, pages_of, block_at, blocks_of, blocks_in};
+ghost use Rattle.nand.specs.Chip.{seen};
+ghost use Rattle.nand.specs.Entries.{OfTable};
+ghost use Rattle.blocks.specs.Leading.{blank_from, Begins, InOrder, Leads};
+ghost use Rattle.blocks.specs.Scanned.{Reads, of_card, use_at, uses_of};
 
-use super::record;
-use nand::page;
-use nand::spare::bad_mark;
+use super::record::{self, First};
+use nand::chip::Chip;
 use rules::block::{Block, State};
-use rules::shape::{MOST, Shape};
-use rules::test;
+use rules::shape::MOST;
 
 // Whether page i of block b carries the mark of a bad block.
-fn is_marked(spare: &[u8], s: Shape, b: usize, i: usize) -> bool
-    requires { Limits s × (length spare.now ≡ s.blocks * s.pages * 16) × (b < s.blocks) × (i < s.pages) }
-    ensures { TellsMark s spare.now b i result }
+fn is_marked(chip: &Chip, b: usize, i: usize) -> bool
+    requires { (b < chip.now.shape.blocks) × (i < chip.now.shape.pages) }
+    ensures { result ≡ is_marked chip.now.shape (seen chip.now) b i }
 {
-    let at = s.page_spare(s.page_no(b, i));
-    bad_mark(&spare[at..at + 16])
+    chip.marks(chip.shape.page_no(b, i)).is_bad_mark()
 }
 
 // Whether block b is bad: the one place where the mark is looked for.
-fn is_bad(spare: &[u8], s: Shape, b: usize) -> bool
-    requires { Limits s × (length spare.now ≡ s.blocks * s.pages * 16) × (b < s.blocks) }
-    ensures { TellsBad s spare.now b result }
+fn is_bad(chip: &Chip, b: usize) -> bool
+    requires { b < chip.now.shape.blocks }
+    ensures { result ≡ is_bad chip.now.shape (seen chip.now) b }
 {
-    let first = is_marked(spare, s, b, 0);
-    let second = is_marked(spare, s, b, 1);
-    first || second
+    let first = is_marked(chip, b, 0);
+    let second = is_marked(chip, b, 1);
+    first | second
 }
 
 // Whether all pages of block b from page `from` on are erased.
-fn is_blank(bytes: &[u8], spare: &[u8], s: Shape, b: usize, from: usize) -> bool
-    requires { Within s (length bytes.now) (length spare.now) × (b < s.blocks) × (from ≤ s.pages) }
-    ensures { result ≡ blank_from s (pages_of s (image_of bytes.now spare.now) b) from }
+fn is_blank(chip: &Chip, b: usize, from: usize) -> bool
+    requires { (b < chip.now.shape.blocks) × (from ≤ chip.now.shape.pages) }
+    ensures { result ≡ blank_from chip.now.shape (pages_of chip.now.shape (seen chip.now) b) from }
 {
-    let pages = s.pages;
-    let mut i = from;
-    while i < pages {
-        if !page::erased_at(bytes, spare, s, s.page_no(b, i)) {
+    let pages = chip.shape.pages;
+    for i in from..pages {
+        if !chip.erased_at(chip.shape.page_no(b, i)) {
             return false;
         }
-        i += 1;
     }
     true
 }
 
 // What the first page of block b gives.
-fn begin(bytes: &[u8], spare: &[u8], s: Shape, b: usize) -> Block
-    requires { Within s (length bytes.now) (length spare.now) × (b < s.blocks) }
-    ensures { Begins s (pages_of s (image_of bytes.now spare.now) b) result }
+fn begin(chip: &Chip, b: usize) -> Option<First>
+    requires { b < chip.now.shape.blocks }
+    ensures { Begins chip.now.shape (pages_of chip.now.shape (seen chip.now) b) result }
 {
-    record::start(s, page::page_at(bytes, spare, s, s.page_no(b, 0)))
+    record::start(chip.shape, chip.page_at(chip.shape.page_no(b, 0)))
 }
 
-// How many pages of block b, with the one that x has begun, come first in order.
-fn in_order(spare: &[u8], s: Shape, b: usize, x: Block) -> usize
-    requires { Limits s × (length spare.now ≡ s.blocks * s.pages * 16) × (b < s.blocks) × IsEntry x }
-    ensures { InOrder s spare.now b x result }
+// How many pages of block b come first in order, with its first page, which gives x.
+fn in_order(chip: &Chip, b: usize, x: First) -> usize
+    requires { (b < chip.now.shape.blocks) × OfTable x.number }
+    ensures { InOrder chip.now.shape (seen chip.now) b x result }
 {
-    let pages = s.pages;
+    let s = chip.shape;
     if !x.ordered {
         return 1;
     }
-    let mut i = 1;
-    while i < pages {
-        let at = s.page_spare(s.page_no(b, i));
-        if !record::is_next(&spare[at..at + 16], s, x, i) {
+    for i in 1..s.pages {
+        if !record::is_next(&chip.marks(s.page_no(b, i)), s, x, i) {
             return i;
         }
-        i += 1;
     }
-    i
+    s.pages
 }
 
 // The record of the pages of block b that come first and go on from each other, as if the others were erased.
-fn leading(bytes: &[u8], spare: &[u8], s: Shape, b: usize) -> Block
-    requires { Within s (length bytes.now) (length spare.now) × (b < s.blocks) }
-    ensures { Leads s (pages_of s (image_of bytes.now spare.now) b) result }
+fn leading(chip: &Chip, b: usize) -> Block
+    requires { b < chip.now.shape.blocks }
+    ensures { Leads chip.now.shape (pages_of chip.now.shape (seen chip.now) b) result }
 {
-    let pages = s.pages;
-    let x = begin(bytes, spare, s, b);
-    if x.filled == 0 {
-        return x;
-    }
+    let s = chip.shape;
+    let Some(x) = begin(chip, b) else {
+        return Block::not_used(State::Free);
+    };
     let mut ordered = x.ordered;
-    let mut i = in_order(spare, s, b, x);
-    while i < pages {
-        let at = s.page_spare(s.page_no(b, i));
-        if !record::goes_on(&spare[at..at + 16], s, x, i) {
+    for i in in_order(chip, b, x)..s.pages {
+        let marks = chip.marks(s.page_no(b, i));
+        if !record::goes_on(&marks, s, x, i) {
             return record::with_pages(x, i, ordered);
         }
-        let placed = record::in_place(&spare[at..at + 16], s, x.logical, i);
-        ordered = test::and(ordered, placed);
-        i += 1;
+        ordered &= record::in_place(&marks, s, x.logical, i);
     }
-    record::with_pages(x, i, ordered)
+    record::with_pages(x, s.pages, ordered)
 }
 
 // The record of block b: that of its leading pages, if no page comes after them.
-fn read_block(bytes: &[u8], spare: &[u8], s: Shape, b: usize) -> Block
-    requires { Within s (length bytes.now) (length spare.now) × (b < s.blocks) }
-    ensures { result ≡ block_at s (image_of bytes.now spare.now) b }
+fn read_block(chip: &Chip, b: usize) -> Block
+    requires { b < chip.now.shape.blocks }
+    ensures { result ≡ block_at chip.now.shape (seen chip.now) b }
 {
-    if is_bad(spare, s, b) {
-        return record::not_used(State::Bad);
+    if is_bad(chip, b) {
+        return Block::not_used(State::Bad);
     }
-    let x = leading(bytes, spare, s, b);
-    if is_blank(bytes, spare, s, b, x.filled as usize) {
+    let x = leading(chip, b);
+    if is_blank(chip, b, usize::from(x.filled)) {
         return x;
     }
-    record::not_used(State::Ill)
-}
-
-// Puts the record of each block into the list, which has none yet; what is no block of the card counts as bad.
-pub fn scan(bytes: &[u8], spare: &[u8], s: Shape, list: &mut [u64; MOST])
-    requires { Within s (length bytes.now) (length spare.now) × (list.old ≡ replicate most 0) }
-    ensures { Scanned (blocks_of s (image_of bytes.now spare.now)) list.new }
-{
-    let blocks = s.blocks;
-    let mut b = 0;
-    while b < blocks {
-        let x = read_block(bytes, spare, s, b);
-        list[b] = words::pack(x);
-        b += 1;
-    }
+    Block::not_used(State::Ill)
 }
 
 // Whether block b is bad, free or in use, by the first page that is not erased.
-fn use_of(bytes: &[u8], spare: &[u8], s: Shape, b: usize) -> State
-    requires { Within s (length bytes.now) (length spare.now) × (b < s.blocks) }
-    ensures { result ≡ use_at s (image_of bytes.now spare.now) b }
+fn use_of(chip: &Chip, b: usize) -> State
+    requires { b < chip.now.shape.blocks }
+    ensures { result ≡ use_at chip.now.shape (seen chip.now) b }
 {
-    if is_bad(spare, s, b) {
+    if is_bad(chip, b) {
         return State::Bad;
     }
-    if is_blank(bytes, spare, s, b, 0) {
+    if is_blank(chip, b, 0) {
         return State::Free;
     }
     State::Ill
 }
 
-// Puts what format asks of each block into the list, which has none yet.
-pub fn scan_use(bytes: &[u8], spare: &[u8], s: Shape, list: &mut [u64; MOST])
-    requires { Within s (length bytes.now) (length spare.now) × (list.old ≡ replicate most 0) }
-    ensures { Scanned (uses_of s (image_of bytes.now spare.now)) list.new }
+// What is read of each block, into the list that is lent; what is no block of the card counts as bad.
+fn read_each<F: Fn(usize) -> Block>(chip: &Chip, list: &mut [Block; MOST], read: F)
+    requires { (b : ℕ) → b < chip.now.shape.blocks → F.pre read b }
+    ensures { (c : Blocks) → Reads (F.post read) chip.now.shape.blocks c
+        → blocks_in list.new ≡ of_card chip.now.shape.blocks c }
 {
-    let blocks = s.blocks;
-    let mut b = 0;
-    while b < blocks {
-        let state = use_of(bytes, spare, s, b);
-        list[b] = words::pack(record::not_used(state));
-        b += 1;
+    list.fill(Block::not_used(State::Bad));
+    for b in 0..chip.shape.blocks {
+        list[b] = read(b);
     }
+}
+
+// The record of each block.
+pub fn scan(chip: &Chip, list: &mut [Block; MOST])
+    ensures { blocks_in list.new ≡ blocks_of chip.now.shape (seen chip.now) }
+{
+    read_each(chip, list, |b| read_block(chip, b));
+}
+
+// What format asks of each block.
+pub fn scan_use(chip: &Chip, list: &mut [Block; MOST])
+    ensures { blocks_in list.new ≡ uses_of chip.now.shape (seen chip.now) }
+{
+    read_each(chip, list, |b| Block::not_used(use_of(chip, b)));
 }

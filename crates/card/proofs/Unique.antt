@@ -2,8 +2,8 @@
 use mathlib.Core.Path.{◌≡◌, sym, ◌∙◌}
 use mathlib.Core.List.{List}
 use Prim.Native.Nat.{ℕ}
+use Rattle.std.specs.Prelude.{Option}
 use Rattle.rules.specs.declared.shape.Shape.{Shape}
-use Rattle.rules.specs.declared.place.Place.{Place}
 use Rattle.rules.specs.declared.answer.Answer.{Answer}
 use Rattle.rules.specs.Page.{Image}
 use Rattle.rules.specs.Replies.{Reply}
@@ -45,5 +45,5 @@ module _ (s : Shape) (im : Image) where
   pub lend_one : (a : ℕ) {part part' : List ℕ} → Lent s im a part → Lent s im a part' → part ≡ part'
   lend_one a h k = one h.bytes_lent k.bytes_lent
 
-  pub lend_at_one : (a : ℕ) {place place' : Place} → LentAt s im a place → LentAt s im a place' → place ≡ place'
+  pub lend_at_one : (a : ℕ) {place place' : Option ℕ} → LentAt s im a place → LentAt s im a place' → place ≡ place'
   lend_at_one a h k = one h.place k.place

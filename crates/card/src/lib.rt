@@ -1,4 +1,4 @@
-// The card: format, power-up, read, write, block write and page lending, over a lent image. Each takes any slices and any numbers.
+// The card: format, power-up, read, write, block write and page lending, over a lent image. Each takes any slices and any numbers, one by one as C gives them.
 
 #![tactic(auto)]
 
@@ -6,7 +6,6 @@ ghost use Rattle.rules.specs.Facts.{image_of};
 ghost use Rattle.rules.specs.Promises.{Given, FormatDone, PowerUpDone, ReadDone, WriteDone, BlockWriteDone, LentAt, Lent};
 
 use rules::answer::Answer;
-use rules::place::Place;
 use rules::shape::Shape;
 
 // Erases each good block that is not free.
@@ -95,7 +94,7 @@ pub fn block_write(
     writing::block_write(bytes, spare, block, s, number, cut)
 }
 
-// The flash page that `lend` lends, or Nowhere.
+// The flash page that `lend` lends, if there is one.
 pub fn lend_at(
     bytes: &[u8],
     spare: &[u8],
@@ -103,7 +102,7 @@ pub fn lend_at(
     logical: usize,
     logs: usize,
     number: usize,
-) -> Place
+) -> Option<usize>
     ensures { Given pages logical logs (image_of bytes.now spare.now)
         (λ s im. LentAt s im number result) }
 {

@@ -1,2 +1,2 @@
-pub mod Planning
 pub mod Copying
+pub mod Planning

@@ -1,182 +1,103 @@
 // A logical block made anew; and the plan of a write carried out: the merge, if there is one, the page itself, and the erase of a block that it makes useless.
+// The run and the records have one shape: each function asks it. A struct of both would hold the run behind a further reference, and each method would promise the run's two references anew.
 
 #![tactic(auto)]
 
-ghost use Rattle.std.specs.Prelude.{◌≡◌, [], ◌∷◌, map, ◌<◌, length};
-ghost use Rattle.rules.specs.Below.{if_any};
-ghost use Rattle.rules.specs.Steps.{erase};
-ghost use Rattle.rules.specs.Facts.{Within, image_of};
-ghost use Rattle.words.specs.Words.{records_in};
-ghost use Rattle.roles.specs.Passes.{Numbers, BlockOrNone};
-ghost use Rattle.steps.specs.Runs.{Sane, Does};
+ghost use Rattle.std.specs.Prelude.{◌≡◌, [], ◌∷◌, ◌<◌, length, option_copied};
+ghost use Rattle.nand.specs.Chip.{seen};
+ghost use Rattle.roles.specs.Kept.{recorded_by};
+ghost use Rattle.steps.specs.Doing.{image_in, Does};
 ghost use Rattle.carry.specs.Carrying.{Sized, page_for, copy_to, copies_to, renewal_steps, Renewable, Kept, first_steps, planned, Doable};
 
-use nand::bytes::copy_over;
+use nand::chip::Chip;
 use plans::plan::Plan;
 use plans::renewal::Renewal;
-use roles::role;
-use rules::page::{COPY, LOG};
-use rules::shape::{MOST, Shape};
-use steps::budget;
-use steps::budget::Budget;
+use roles::records::Records;
+use rules::kind::Kind;
+use steps::run::Run;
 
-// Fills the page buffer with what logical page a gets: part o of the block buffer, or with an empty one the present content.
-fn fill_page<'a>(
-    bytes: &[u8],
-    spare: &[u8],
-    block: &[u8],
-    page: &mut [u8],
-    s: Shape,
-    list: &'a [u64; MOST],
-    numbers: &'a [u32; MOST],
+// Fills the page buffer with what logical page a gets: part o of the block buffer, or with none the present content.
+fn fill_page(
+    chip: &Chip,
+    records: &Records,
+    block: Option<&[u8]>,
     a: usize,
     o: usize,
+    page: &mut [u8],
 )
-    requires { Within s (length bytes.now) (length spare.now) × Sized s block.now × (length page.old ≡ 512)
-        × Numbers s (records_in list.now) numbers.now × (o < s.pages) }
-    ensures { page.new ≡ page_for s (image_of bytes.now spare.now)
-        (records_in list.now) block.now a o }
+    requires { (chip.now.shape ≡ records.now.shape) × Sized records.now.shape (option_copied block)
+        × (length page.old ≡ 512) × (o < records.now.shape.pages) }
+    ensures { page.new ≡ page_for records.now.shape (seen chip.now)
+        (recorded_by records.now) (option_copied block.entry) a o }
 {
-    if block.len() == 0 {
-        content::fetch(bytes, spare, page, s, list, numbers, a);
-        return;
+    match block {
+        Some(block) => {
+            let at = o * 512;
+            page.copy_from_slice(&block[at..at + 512]);
+        }
+        None => content::fetch(chip, records, a, page),
     }
-    let at = o * 512;
-    copy_over(page, &block[at..at + 512]);
 }
 
 // Programs the page at offset o.
-fn copy_page<'a>(
-    bytes: &mut [u8],
-    spare: &mut [u8],
-    block: &[u8],
-    s: Shape,
-    list: &'a [u64; MOST],
-    numbers: &'a [u32; MOST],
-    r: Renewal,
-    o: usize,
-    t: Budget,
-) -> Budget
-    requires { Within s (length bytes.old) (length spare.old) × Numbers s (records_in list.now) numbers.now
-        × Renewable s r block.now × (o < s.pages) × Sane t }
-    ensures { Does s (λ im. copy_to s im (records_in list.now) r block.now o ∷ []) t
-        bytes.old spare.old bytes.new spare.new result }
+fn copy_page(run: &mut Run, records: &Records, renewal: &Renewal, block: Option<&[u8]>, o: usize)
+    requires { (run.old.shape ≡ records.now.shape) × Renewable records.now.shape renewal.now (option_copied block)
+        × (o < records.now.shape.pages) }
+    ensures { Does (λ im. copy_to records.now.shape im (recorded_by records.now) renewal.now (option_copied block.entry) o ∷ [])
+        run.old run.new }
 {
-    let pages = s.pages;
-    let a = r.logical * pages + o;
-    let mut page = [255u8; 512];
-    fill_page(bytes, spare, block, &mut page, s, list, numbers, a, o);
-    let at = s.page_no(r.into, o);
-    budget::program_entry(bytes, spare, s, at, r.highest + 1, COPY, a, &page, t)
+    let a = renewal.logical * records.shape.pages + o;
+    let mut page = [255; 512];
+    fill_page(&run.chip(), records, block, a, o, &mut page);
+    let at = run.shape.page_no(renewal.into.unwrap(), o);
+    run.program_entry(at, renewal.highest + 1, Kind::Copy, a, &page);
 }
 
 // Programs the pages in order.
-fn copy_all<'a>(
-    bytes: &mut [u8],
-    spare: &mut [u8],
-    block: &[u8],
-    s: Shape,
-    list: &'a [u64; MOST],
-    numbers: &'a [u32; MOST],
-    r: Renewal,
-    t: Budget,
-) -> Budget
-    requires { Within s (length bytes.old) (length spare.old) × Numbers s (records_in list.now) numbers.now
-        × Renewable s r block.now × Kept s (image_of bytes.old spare.old) (records_in list.now) r block.now × Sane t }
-    ensures { Does s (λ im. copies_to s im (records_in list.now) r block.now s.pages) t
-        bytes.old spare.old bytes.new spare.new result }
+fn copy_all(run: &mut Run, records: &Records, renewal: &Renewal, block: Option<&[u8]>)
+    requires { (run.old.shape ≡ records.now.shape) × Renewable records.now.shape renewal.now (option_copied block)
+        × Kept records.now.shape (image_in run.old) (recorded_by records.now) renewal.now (option_copied block) }
+    ensures { Does (λ im. copies_to records.now.shape im (recorded_by records.now) renewal.now (option_copied block.entry) records.now.shape.pages)
+        run.old run.new }
 {
-    let pages = s.pages;
-    let mut u = t;
-    let mut o = 0;
-    while o < pages {
-        u = copy_page(bytes, spare, block, s, list, numbers, r, o, u);
-        o += 1;
+    for o in 0..records.shape.pages {
+        copy_page(run, records, renewal, block, o);
     }
-    u
 }
 
-// Erases block b, if there is one.
-fn erase_found(bytes: &mut [u8], spare: &mut [u8], s: Shape, b: usize, t: Budget) -> Budget
-    requires { Within s (length bytes.old) (length spare.old) × BlockOrNone s b × Sane t }
-    ensures { Does s (λ _. map erase (if_any b)) t
-        bytes.old spare.old bytes.new spare.new result }
+// Makes a logical block anew: with the P parts of the block buffer, or with none with its present content.
+pub fn renew(run: &mut Run, records: &Records, renewal: &Renewal, block: Option<&[u8]>)
+    requires { (run.old.shape ≡ records.now.shape) × Renewable records.now.shape renewal.now (option_copied block)
+        × Kept records.now.shape (image_in run.old) (recorded_by records.now) renewal.now (option_copied block) }
+    ensures { Does (λ im. renewal_steps records.now.shape im (recorded_by records.now) renewal.now (option_copied block.entry))
+        run.old run.new }
 {
-    budget::erase_if(bytes, spare, s, b != role::NONE, b, t)
-}
-
-// Makes a logical block anew: with the P parts of the block buffer, or with an empty one with its present content.
-pub fn renew<'a>(
-    bytes: &mut [u8],
-    spare: &mut [u8],
-    block: &[u8],
-    s: Shape,
-    list: &'a [u64; MOST],
-    numbers: &'a [u32; MOST],
-    r: Renewal,
-    t: Budget,
-) -> Budget
-    requires { Within s (length bytes.old) (length spare.old) × Numbers s (records_in list.now) numbers.now
-        × Renewable s r block.now × Kept s (image_of bytes.old spare.old) (records_in list.now) r block.now × Sane t }
-    ensures { Does s (λ im. renewal_steps s im (records_in list.now) r block.now) t
-        bytes.old spare.old bytes.new spare.new result }
-{
-    let copied = copy_all(bytes, spare, block, s, list, numbers, r, t);
-    let cleared = erase_found(bytes, spare, s, r.log, copied);
-    erase_found(bytes, spare, s, r.data, cleared)
+    copy_all(run, records, renewal, block);
+    run.erase_any(renewal.log);
+    run.erase_any(renewal.data);
 }
 
 // The merge that comes before the write's own page, if any.
-fn first_steps<'a>(
-    bytes: &mut [u8],
-    spare: &mut [u8],
-    s: Shape,
-    list: &'a [u64; MOST],
-    numbers: &'a [u32; MOST],
-    p: Plan,
-    t: Budget,
-) -> Budget
-    requires { Within s (length bytes.old) (length spare.old) × Numbers s (records_in list.now) numbers.now
-        × Doable s (image_of bytes.old spare.old) (records_in list.now) p × Sane t }
-    ensures { Does s (λ im. first_steps s im (records_in list.now) p) t
-        bytes.old spare.old bytes.new spare.new result }
+fn first_steps(run: &mut Run, records: &Records, plan: &Plan)
+    requires { (run.old.shape ≡ records.now.shape)
+        × Doable records.now.shape (image_in run.old) (recorded_by records.now) plan.now }
+    ensures { Does (λ im. first_steps records.now.shape im (recorded_by records.now) plan.now)
+        run.old run.new }
 {
-    if p.needed != 2 {
-        return t;
+    if let Some(merge) = plan.merge {
+        renew(run, records, &merge, None);
     }
-    renew(bytes, spare, &[], s, list, numbers, p.merge, t)
 }
 
 // Carries the plan out.
-pub fn carry_out<'a>(
-    bytes: &mut [u8],
-    spare: &mut [u8],
-    page: &[u8],
-    s: Shape,
-    list: &'a [u64; MOST],
-    numbers: &'a [u32; MOST],
-    p: Plan,
-    a: usize,
-    t: Budget,
-) -> Budget
-    requires { Within s (length bytes.old) (length spare.old) × (length page.now ≡ 512)
-        × Numbers s (records_in list.now) numbers.now
-        × Doable s (image_of bytes.old spare.old) (records_in list.now) p × Sane t }
-    ensures { Does s (λ im. planned s im (records_in list.now) p a page.now) t
-        bytes.old spare.old bytes.new spare.new result }
+pub fn carry_out(run: &mut Run, records: &Records, plan: &Plan, a: usize, page: &[u8])
+    requires { (run.old.shape ≡ records.now.shape) × (length page.now ≡ 512)
+        × Doable records.now.shape (image_in run.old) (recorded_by records.now) plan.now }
+    ensures { Does (λ im. planned records.now.shape im (recorded_by records.now) plan.now a page.now)
+        run.old run.new }
 {
-    let merged = first_steps(bytes, spare, s, list, numbers, p, t);
-    let at = s.page_no(p.block, p.place);
-    let done = budget::program_entry(
-        bytes,
-        spare,
-        s,
-        at,
-        p.number + p.needed,
-        LOG,
-        a,
-        page,
-        merged,
-    );
-    erase_found(bytes, spare, s, p.former, done)
+    first_steps(run, records, plan);
+    let at = run.shape.page_no(plan.block.unwrap(), plan.place);
+    run.program_entry(at, plan.number + plan.needed, Kind::Log, a, page);
+    run.erase_any(plan.former);
 }

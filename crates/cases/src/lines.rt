@@ -10,23 +10,17 @@ fn number(out: &impl Print, n: usize) -> io::Result<()> {
     print!(out; " {n}")
 }
 
-// The number of an answer, its programs and its erases.
+// An answer: its number, its programs and its erases.
 pub(crate) fn answer(out: &impl Print, a: Answer) -> io::Result<()> {
-    number(out, a.number() as usize)?;
-    number(out, a.programs())?;
-    number(out, a.erases())
+    print!(out; " {a}")
 }
 
 // Power-up's table.
-pub(crate) fn table(out: &impl Print, t: [u16; 4]) -> io::Result<()> {
-    number(out, t[0] as usize)?;
-    number(out, t[1] as usize)?;
-    number(out, t[2] as usize)?;
-    number(out, t[3] as usize)
-}
-
-fn wide(x: u8) -> usize {
-    x as usize
+pub(crate) fn table(out: &impl Print, t: &[u16]) -> io::Result<()> {
+    for entry in t {
+        number(out, usize::from(*entry))?;
+    }
+    Ok(())
 }
 
 pub(crate) fn sum(out: &impl Print, bytes: &[u8]) -> io::Result<()> {
@@ -38,10 +32,8 @@ pub(crate) fn sum(out: &impl Print, bytes: &[u8]) -> io::Result<()> {
 fn placed_sum(bytes: &[u8]) -> usize {
     let mut all = 0usize;
     let mut placed = 0usize;
-    let mut i = bytes.len();
-    while i > 0 {
-        i -= 1;
-        all = all.wrapping_add(wide(bytes[i]));
+    for byte in bytes.iter().rev() {
+        all = all.wrapping_add(usize::from(*byte));
         placed = placed.wrapping_add(all);
     }
     placed

@@ -17,7 +17,7 @@ ghost use Rattle.std.specs.Prelude.{◌≡◌, ◌≤◌, length};
 mod commands;
 mod lines;
 
-use rules::page::LOG;
+use rules::kind::LOG;
 use std::io;
 
 // The images of 4 blocks, each of 4 pages.
@@ -33,9 +33,8 @@ fn play(
     logs: usize,
     words: &[u8],
 ) -> io::Result<()> {
-    for k in 0..words.len() / 6 {
-        let at = k * 6;
-        commands::run(out, bytes, spare, logs, &words[at..at + 6])?;
+    for word in words.chunks_exact(6) {
+        commands::run(out, bytes, spare, logs, word)?;
     }
     Ok(())
 }

@@ -1,8 +1,6 @@
 -- What C is given: an answer as one number of 64 bits, and a lent page by the byte where it starts.
-use Rattle.std.specs.Prelude.{◌≡◌, ℕ, ◌+◌, ◌*◌, ◌<◌}
+use Rattle.std.specs.Prelude.{◌≡◌, Option, Some, None, ℕ, ◌+◌, ◌*◌, ◌<◌}
 use Rattle.rules.specs.declared.shape.Shape.{Shape}
-use Rattle.rules.specs.declared.place.Place.{Place}
-use Rattle.rules.specs.declared.place.Place.TheVariants.{At, Nowhere}
 use Rattle.rules.specs.declared.answer.Answer.{Answer}
 use Rattle.rules.specs.Page.{Image}
 use Rattle.rules.specs.Replies.{number, programs_of, erases_of}
@@ -25,12 +23,12 @@ pub record Result (promise : Answer → Type 0) (r : ℕ) : Type 0 where
   pub packs : r ≡ packed answer
 
 -- the byte of the data image where a lent page starts, or 2^64 - 1
-abbrev pub lent_byte : Place → ℕ
-lent_byte (At p) = p * 512
-lent_byte Nowhere = 18446744073709551615
+abbrev pub lent_byte : Option ℕ → ℕ
+lent_byte (Some p) = p * 512
+lent_byte None = 18446744073709551615
 
 -- r is that byte for the page that the card lends, and its 512 bytes are in the data image
 pub record LentFrom (s : Shape) (im : Image) (a r : ℕ) : Type 0 where
-  pub place : Place
+  pub place : Option ℕ
   pub lent : LentAt s im a place
   pub byte : r ≡ lent_byte place

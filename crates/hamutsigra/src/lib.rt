@@ -8,15 +8,14 @@ ghost use Rattle.rules.specs.Promises.{Given, FormatDone, PowerUpDone, ReadDone,
 ghost use Rattle.hamutsigra.specs.Results.{packed, InBits, Result, LentFrom};
 
 use rules::answer::Answer;
-use rules::place::Place;
-use rules::shape::Shape;
+use rules::shape::{DATA, Shape};
 
 // An answer as one number.
 fn pack(a: Answer) -> u64
     requires { InBits a }
     ensures { result ≡ packed a }
 {
-    a.number() as u64 + a.programs() as u64 * 256 + a.erases() as u64 * 4294967296
+    u64::from(a.number()) + a.programs() as u64 * 256 + a.erases() as u64 * 4294967296
 }
 
 // Erases each good block that is not free.
@@ -119,9 +118,8 @@ pub extern "C" fn hamutsigra_lend(
         (λ s im. LentFrom s im number result) }
 {
     let s = Shape::of(pages, logical, logs, bytes.len());
-    let lent = card::lend_at(bytes, spare, pages, logical, logs, number);
-    match lent {
-        Place::At(p) => s.page_bytes(p) as u64,
-        Place::Nowhere => u64::MAX,
+    match card::lend_at(bytes, spare, pages, logical, logs, number) {
+        Some(p) => s.page_start::<DATA>(p) as u64,
+        None => u64::MAX,
     }
 }

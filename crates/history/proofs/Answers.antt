@@ -3,19 +3,22 @@ use mathlib.Core.Path.{◌≡◌, refl, ap}
 use mathlib.Core.Logic.{◌⊎◌, inl, inr}
 use mathlib.Core.Bool.{Bool, true, false, not, cond}
 use mathlib.Core.List.{List}
-use Prim.Native.Nat.{ℕ, zero, suc, ◌+◌, ◌*◌, ◌≤◌, ◌<◌}
+use Prim.Native.Nat.{ℕ, ◌+◌, ◌*◌, ◌≤◌, ◌<◌}
 use native.Mathlib.Omega.{arith}
 use lib.ListN.{length, take}
 use lib.Seq.{take_all}
 use lib.Dec.{T, ltb, eqb, eqb→eq, T_not, not_T, lt→ltb, nltb→le}
+use Rattle.std.specs.Prelude.{Option, Some, None}
 use Rattle.rules.specs.declared.shape.Shape.{Shape}
+use Rattle.rules.specs.declared.refusal.Refusal.{Refusal}
+use Rattle.rules.specs.declared.refusal.Refusal.TheVariants.{OutsideLimits, WrongLength, OutOfRange, TooFewGood, IllFormed, Unrecovered, OutOfNumbers}
 use Rattle.rules.specs.declared.answer.Answer.TheVariants.{Done, Cut}
 use Rattle.rules.specs.Spare.{number_limit}
 use Rattle.rules.specs.Shape.{good_needed, block_of, in_range, within_limits}
 use Rattle.rules.specs.Page.{Image}
 use Rattle.rules.specs.WellFormed.{Blocks, blocks_of, well_formed}
 use Rattle.rules.specs.Steps.{Step, programs, erases, highest, write_case, numbers_needed}
-use Rattle.rules.specs.Replies.{number, programs_of, erases_of, good_blocks, first_refusal, outside_limits, too_few_good, unrecovered, out_of_numbers, power_up_refusal, read_refusal, write_refusal, block_write_refusal, unless, refused_by, carried_out, power_up_tests, read_tests, writing_tests}
+use Rattle.rules.specs.Replies.{refusal_number, number, programs_of, erases_of, good_blocks, first_refusal, outside_limits, too_few_good, unrecovered, out_of_numbers, power_up_refusal, read_refusal, write_refusal, block_write_refusal, unless, refused_by, carried_out, power_up_tests, read_tests, writing_tests}
 use Rattle.laws.proofs.First.{first_none, first_by}
 use Rattle.laws.proofs.Tests.{cond_yes, cond_no, lt_or_le, nlt→ltb}
 use Rattle.laws.proofs.Shape.{within_limits_within, within_within_limits}
@@ -74,10 +77,10 @@ pub record Taken (s : Shape) (im : Image) (size want : ℕ) (place : Bool) (need
   pub clean : Recovered s (blocks_of s im)
   pub fit : highest s (blocks_of s im) + needed ≤ number_limit
 
-taken : (s : Shape) (im : Image) (size want : ℕ) (place : Bool) (needed : ℕ) → first_refusal (writing_tests s im (blocks_of s im) (eqb size want) place needed) ≡ 0
+taken : (s : Shape) (im : Image) (size want : ℕ) (place : Bool) (needed : ℕ) → first_refusal (writing_tests s im (blocks_of s im) (eqb size want) place needed) ≡ None
     → Taken s im size want place needed
 taken s im size want place needed e =
-    let (f₁, (f₂, (f₃, (f₄, (f₅, (f₆, (f₇, _))))))) = first_none (writing_tests s im (blocks_of s im) (eqb size want) place needed) tt e in
+    let (f₁, (f₂, (f₃, (f₄, (f₅, (f₆, (f₇, _))))))) = first_none (writing_tests s im (blocks_of s im) (eqb size want) place needed) e in
     let w = sound_of s im f₁ f₄ (passes (well_formed s (blocks_of s im)) f₅) in
     record {
       sound = w;
@@ -94,11 +97,11 @@ module _ (s : Shape) (im : Image) (size : ℕ) where
   abbrev pub BlockWriteTaken : ℕ → Type 0
   BlockWriteTaken l = Taken s im size (s.pages * 512) (ltb l s.logical) 1
 
-  pub write_taken : (a : ℕ) → write_refusal s im (blocks_of s im) size a ≡ 0 → WriteTaken a
+  pub write_taken : (a : ℕ) → write_refusal s im (blocks_of s im) size a ≡ None → WriteTaken a
   unfolding write_refusal
   write_taken a = taken s im size 512 (in_range s a) (numbers_needed (write_case s (blocks_of s im) (block_of s a)))
 
-  pub block_write_taken : (l : ℕ) → block_write_refusal s im (blocks_of s im) size l ≡ 0 → BlockWriteTaken l
+  pub block_write_taken : (l : ℕ) → block_write_refusal s im (blocks_of s im) size l ≡ None → BlockWriteTaken l
   unfolding block_write_refusal
   block_write_taken l = taken s im size (s.pages * 512) (ltb l s.logical) 1
 
@@ -107,34 +110,34 @@ pub record ReadTaken (s : Shape) (im : Image) (size a : ℕ) : Type 0 where
   pub long : size ≡ 512
   pub inside : T (in_range s a)
 
-pub read_taken : (s : Shape) (im : Image) (size a : ℕ) → read_refusal s im (blocks_of s im) size a ≡ 0 → ReadTaken s im size a
+pub read_taken : (s : Shape) (im : Image) (size a : ℕ) → read_refusal s im (blocks_of s im) size a ≡ None → ReadTaken s im size a
 unfolding read_refusal
 read_taken s im size a e =
-    let (f₁, (f₂, (f₃, (f₄, (f₅, _))))) = first_none (read_tests s im (blocks_of s im) size a) tt e in
+    let (f₁, (f₂, (f₃, (f₄, (f₅, _))))) = first_none (read_tests s im (blocks_of s im) size a) e in
     record {
       sound = sound_of s im f₁ f₄ (passes (well_formed s (blocks_of s im)) f₅);
       long = eqb→eq size 512 (passes (eqb size 512) f₂);
       inside = passes (in_range s a) f₃;
     }
 
-pub power_up_taken : (s : Shape) (im : Image) (size : ℕ) → power_up_refusal s im (blocks_of s im) size ≡ 0 → Sound s im
+pub power_up_taken : (s : Shape) (im : Image) (size : ℕ) → power_up_refusal s im (blocks_of s im) size ≡ None → Sound s im
 unfolding power_up_refusal
 power_up_taken s im size e =
-    let (f₁, (f₂, (f₄, (f₅, _)))) = first_none (power_up_tests s im (blocks_of s im) size) tt e in
+    let (f₁, (f₂, (f₄, (f₅, _)))) = first_none (power_up_tests s im (blocks_of s im) size) e in
     sound_of s im f₁ f₄ (passes (well_formed s (blocks_of s im)) f₅)
 
 -- ---- refusals on a sound image: none of 1, 4 and 5 applies
 
-module _ (s : Shape) (im : Image) (w : Sound s im) (Q : ℕ → Type 0) where
+module _ (s : Shape) (im : Image) (w : Sound s im) (Q : Option Refusal → Type 0) where
   abbrev k : Blocks
   k = blocks_of s im
 
-  pub power_up_refusal_lem : (size : ℕ) → (T (not (eqb size (2 * s.logical))) → Q 2) → Q 0 → Q (power_up_refusal s im (blocks_of s im) size)
+  pub power_up_refusal_lem : (size : ℕ) → (T (not (eqb size (2 * s.logical))) → Q (Some WrongLength)) → Q None → Q (power_up_refusal s im (blocks_of s im) size)
   unfolding power_up_refusal
   power_up_refusal_lem size q2 q0 =
       first_by Q (power_up_tests s im k size) ((λ t. absurd (sound_1 s im w t)), (q2, ((λ t. absurd (sound_4 s im w t)), ((λ t. absurd (not_5 s im w t)), tt)))) q0
 
-  pub read_refusal_lem : (size a : ℕ) → (T (not (eqb size 512)) → Q 2) → (T (not (in_range s a)) → Q 3) → Q 0
+  pub read_refusal_lem : (size a : ℕ) → (T (not (eqb size 512)) → Q (Some WrongLength)) → (T (not (in_range s a)) → Q (Some OutOfRange)) → Q None
       → Q (read_refusal s im (blocks_of s im) size a)
   unfolding read_refusal
   read_refusal_lem size a q2 q3 q0 =
@@ -142,10 +145,10 @@ module _ (s : Shape) (im : Image) (w : Sound s im) (Q : ℕ → Type 0) where
       ((λ t. absurd (sound_1 s im w t)), (q2, (q3, ((λ t. absurd (sound_4 s im w t)), ((λ t. absurd (not_5 s im w t)), tt))))) q0
 
   -- of a write or block write
-  pub writing_refusal : (size want : ℕ) (place : Bool) (needed : ℕ) → (T (not (eqb size want)) → Q 2) → (T (not place) → Q 3)
-      → (T (unrecovered s (blocks_of s im)) → Q 6)
-      → Q 7
-      → Q 0
+  pub writing_refusal : (size want : ℕ) (place : Bool) (needed : ℕ) → (T (not (eqb size want)) → Q (Some WrongLength)) → (T (not place) → Q (Some OutOfRange))
+      → (T (unrecovered s (blocks_of s im)) → Q (Some Unrecovered))
+      → Q (Some OutOfNumbers)
+      → Q None
       → Q (first_refusal (writing_tests s im (blocks_of s im) (eqb size want) place needed))
   writing_refusal size want place needed q2 q3 q6 q7 q0 =
       first_by Q (writing_tests s im (blocks_of s im) (eqb size want) place needed)
@@ -162,14 +165,25 @@ module _ (cut : ℕ) (ts : List Step) where
         | inr h ↦ inl (ap number (cond_no (ltb cut (length ts)) _ _ (nlt→ltb cut (length ts) h)), h)
       ]
 
--- answered 0: nothing is refused, and the whole list is done
-pub answered_0 : (n cut : ℕ) (ts : List Step) → number (unless n (refused_by n) (carried_out cut ts)).answer ≡ 0 → (n ≡ 0) × (take cut ts ≡ ts)
-answered_0 zero cut ts e = (refl, elim (done_number cut ts) [ inl q ↦ take_all cut ts q.1 | inr q ↦ absurd (omega (arith, q.0)) ])
-answered_0 (suc n) cut ts e = absurd (omega arith)
+-- no refusal has number 0
+pub refusal_number_low : (r : Refusal) → 1 ≤ refusal_number r
+refusal_number_low OutsideLimits = omega arith
+refusal_number_low WrongLength = omega arith
+refusal_number_low OutOfRange = omega arith
+refusal_number_low TooFewGood = omega arith
+refusal_number_low IllFormed = omega arith
+refusal_number_low Unrecovered = omega arith
+refusal_number_low OutOfNumbers = omega arith
 
-pub counts_told : (n cut : ℕ) (ts : List Step) → Tells (unless n (refused_by n) (carried_out cut ts))
-counts_told (suc n) cut ts = (refl, refl)
-counts_told zero cut ts = go (ltb cut (length ts))
+-- answered 0: nothing is refused, and the whole list is done
+pub answered_0 : (r : Option Refusal) (cut : ℕ) (ts : List Step) → number (unless r refused_by (carried_out cut ts)).answer ≡ 0
+    → (r ≡ None) × (take cut ts ≡ ts)
+answered_0 None cut ts e = (refl, elim (done_number cut ts) [ inl q ↦ take_all cut ts q.1 | inr q ↦ absurd (omega (arith, q.0)) ])
+answered_0 (Some r) cut ts e = absurd (omega (arith, refusal_number_low r))
+
+pub counts_told : (r : Option Refusal) (cut : ℕ) (ts : List Step) → Tells (unless r refused_by (carried_out cut ts))
+counts_told (Some r) cut ts = (refl, refl)
+counts_told None cut ts = go (ltb cut (length ts))
   where
     p : ℕ
     p = programs (take cut ts)

@@ -8,16 +8,16 @@ use native.Mathlib.Omega.{arith}
 use native.Mathlib.Nat.{le-div_iff_mul-le}
 use lib.ListN.{length, take}
 use lib.Dec.{T, ltb, eqb, T_not}
+use Rattle.std.specs.Prelude.{Option, Some, None, is_none}
 use Rattle.rules.specs.declared.shape.Shape.{Shape}
-use Rattle.rules.specs.declared.place.Place.{Place}
-use Rattle.rules.specs.declared.place.Place.TheVariants.{At, Nowhere}
+use Rattle.rules.specs.declared.refusal.Refusal.{Refusal}
 use Rattle.rules.specs.Shape.{shape_of, block_of, in_range}
 use Rattle.rules.specs.Page.{Image}
 use Rattle.rules.specs.WellFormed.{Blocks, is_bad, blocks_of, well_formed}
 use Rattle.rules.specs.Content.{holder, bytes_at, content}
 use Rattle.rules.specs.Steps.{format_list, Step, steps_done, power_up_list, numbers_needed, write_list, block_write_list}
-use Rattle.rules.specs.Replies.{first_refusal, writing_tests, format_refusal, format_reply, number, shape_for, image_left, carried_out, refused_by, unless, read_refusal, power_up_refusal, write_refusal, block_write_refusal, read_reply, power_up_reply, write_reply, block_write_reply, table_of, table_left, page_left, lent_page, lent_bytes}
-use Rattle.laws.proofs.Tests.{chain_each, eq→eqb}
+use Rattle.rules.specs.Replies.{refusal_number, first_refusal, writing_tests, format_refusal, format_reply, number, shape_for, image_left, carried_out, refused_by, unless, read_refusal, power_up_refusal, write_refusal, block_write_refusal, read_reply, power_up_reply, write_reply, block_write_reply, table_of, table_left, page_left, lent_page, lent_bytes}
+use Rattle.laws.proofs.Tests.{chain_each, cond_yes, eq→eqb}
 use Rattle.laws.proofs.Roles.{Recovered, taken_free}
 use Rattle.history.specs.History.{Tells, Command, read, write, block_write, power_up, reply_to, Event, History, format, formatted_image, end, shape, events, page_after, last_from, last_write, writes_in, cuts_in, erases_in, FallIn, steps_in, never_twice, FindErased, left_alone}
 use Rattle.history.specs.Demands.{CountsAreOfTheSteps, ReadsTheLastWrite, OneMoreCommand, OnAnyImage, LendsWhatIsRead, NeverProgrammedTwice, BadBlocksStay, SameBadBlocks, StaysWellFormed, AtMostTwiceTheWrites, FewLogicalBlocks, ShortLists, BlockWriteLists, RecoveredCard, WriteIsTaken, BlockWriteIsTaken, PowerUpRecovers, TableOfTheImageLeft, WriteLeavesRecovered, BlockWriteLeavesRecovered, ThereIsAFreeBlock, AFreeBlockAfterTheMerge}
@@ -77,9 +77,9 @@ module _ (h : History) where
 -- ---- demand 2
 
 module _ (s : Shape) (im : Image) (w : Sound s im) (buffer : List ℕ) (a : ℕ) (long : length buffer ≡ 512) (t : T (in_range s a)) where
-  taken_read : read_refusal s im (blocks_of s im) (length buffer) a ≡ 0
+  taken_read : read_refusal s im (blocks_of s im) (length buffer) a ≡ None
   taken_read =
-      read_refusal_lem s im w (λ n. n ≡ 0) (length buffer) a (λ u. absurd (T_not (eqb (length buffer) 512) u (eq→eqb (length buffer) 512 long)))
+      read_refusal_lem s im w (λ r. r ≡ None) (length buffer) a (λ u. absurd (T_not (eqb (length buffer) 512) u (eq→eqb (length buffer) 512 long)))
       (λ u. absurd (T_not (in_range s a) u t)) refl
 
   read_gives : page_left s im buffer a ≡ content_of s im a
@@ -110,18 +110,19 @@ on_any_image s im x a buffer e =
 pub one_more_command : OneMoreCommand
 one_more_command h x a buffer t long = (on_any_image (shape h) (end h) x a buffer (reads_the_last_write h a buffer t long).0).1
 
-nowhere : {p : ℕ} → Nowhere ≡ At p → ⊥
-nowhere e = let z : ◌≡◌ {A = ℕ} 0 1 = cc in omega arith
+nowhere : {p : ℕ} → None ≡ Some p → ⊥
+nowhere e = subst (λ (q : Option ℕ). T (is_none q)) e tt
 
 pub lends_what_is_read : LendsWhatIsRead
 unfolding page_left lent_page content
 lends_what_is_read s im a p buffer long = rw long (go (read_refusal s im (blocks_of s im) 512 a) (holder s im (blocks_of s im) a))
   where
-    -- nothing is lent where n refuses, or where no page holds the content
-    go : (n : ℕ) (q : Place) → unless n Nowhere q ≡ At p → unless n buffer (bytes_at im q) ≡ lent_bytes im (unless n Nowhere q)
-    go zero (At r) e = refl
-    go zero Nowhere e = absurd (nowhere e)
-    go (suc n) q e = absurd (nowhere e)
+    -- nothing is lent where r refuses, or where no page holds the content
+    go : (r : Option Refusal) (q : Option ℕ) → unless r (λ x. None) q ≡ Some p
+        → unless r (λ x. buffer) (bytes_at im q) ≡ lent_bytes im (unless r (λ x. None) q)
+    go None (Some i) e = refl
+    go None None e = absurd (nowhere e)
+    go (Some r) q e = absurd (nowhere e)
 
 pub never_programmed_twice : NeverProgrammedTwice
 never_programmed_twice h =
@@ -141,11 +142,16 @@ same_bad_blocks h b k =
     (steps_bad (s h) b (take k ((format h).steps ++ steps_in (es h))) h.given (start h).fits
     (allowed_take (s h) k ((format h).steps ++ steps_in (es h)) h.given (all_allowed h)))
 
+-- the number of a refusal, 0 for none
+abbrev numbered : Option Refusal → ℕ
+numbered None = 0
+numbered (Some r) = refusal_number r
+
 -- the number of an answer is that of the refusal, or 8
-number-cases : (n cut : ℕ) (ts : List Step)
-    → (number (unless n (refused_by n) (carried_out cut ts)).answer ≡ n) ⊎ (number (unless n (refused_by n) (carried_out cut ts)).answer ≡ 8)
-number-cases zero cut ts = elim (done_number cut ts) [ inl q ↦ inl q.0 | inr q ↦ inr q.0 ]
-number-cases (suc n) cut ts = inl refl
+number-cases : (r : Option Refusal) (cut : ℕ) (ts : List Step)
+    → (number (unless r refused_by (carried_out cut ts)).answer ≡ numbered r) ⊎ (number (unless r refused_by (carried_out cut ts)).answer ≡ 8)
+number-cases None cut ts = elim (done_number cut ts) [ inl q ↦ inl q.0 | inr q ↦ inr q.0 ]
+number-cases (Some r) cut ts = inl refl
 
 -- none of 1, 4 and 5
 abbrev Fine : ℕ → Type 0
@@ -159,20 +165,20 @@ fine n t =
       (λ e. T_not (eqb n 5) q.1.1.0 (eq→eqb n 5 e)),
     )
 
-fine_number : (n cut : ℕ) (ts : List Step) → Fine n → Fine (number (unless n (refused_by n) (carried_out cut ts)).answer)
-fine_number n cut ts f = elim (number-cases n cut ts) [ inl e ↦ subst Fine (sym e) f | inr e ↦ subst Fine (sym e) (fine 8 tt) ]
+fine_number : (r : Option Refusal) (cut : ℕ) (ts : List Step) → Fine (numbered r) → Fine (number (unless r refused_by (carried_out cut ts)).answer)
+fine_number r cut ts f = elim (number-cases r cut ts) [ inl e ↦ subst Fine (sym e) f | inr e ↦ subst Fine (sym e) (fine 8 tt) ]
 
 -- the refusal of a write or block write
 fine_writing : (s : Shape) (im : Image) → Sound s im → (size want : ℕ) (place : Bool) (needed : ℕ)
-    → Fine (first_refusal (writing_tests s im (blocks_of s im) (eqb size want) place needed))
+    → Fine (numbered (first_refusal (writing_tests s im (blocks_of s im) (eqb size want) place needed)))
 fine_writing s im w size want place needed =
-    writing_refusal s im w Fine size want place needed (λ t. fine 2 tt) (λ t. fine 3 tt) (λ t. fine 6 tt) (fine 7 tt) (fine 0 tt)
+    writing_refusal s im w (λ r. Fine (numbered r)) size want place needed (λ t. fine 2 tt) (λ t. fine 3 tt) (λ t. fine 6 tt) (fine 7 tt) (fine 0 tt)
 
 never_1_4_5 : (s : Shape) (im : Image) → Sound s im → (x : Command) → Fine (number (reply_to s im x).answer)
 unfolding read_reply write_reply block_write_reply power_up_reply write_refusal block_write_refusal
 never_1_4_5 s im w (read a buffer) =
     fine_number (read_refusal s im (blocks_of s im) (length buffer) a) 0 []
-    (read_refusal_lem s im w Fine (length buffer) a (λ t. fine 2 tt) (λ t. fine 3 tt) (fine 0 tt))
+    (read_refusal_lem s im w (λ r. Fine (numbered r)) (length buffer) a (λ t. fine 2 tt) (λ t. fine 3 tt) (fine 0 tt))
 never_1_4_5 s im w (write a d cut) =
     fine_number (write_refusal s im (blocks_of s im) (length d) a) cut (write_list s im (blocks_of s im) a d)
     (fine_writing s im w (length d) 512 (in_range s a) (numbers_needed (the_case s im a d)))
@@ -181,7 +187,7 @@ never_1_4_5 s im w (block_write l d cut) =
     (fine_writing s im w (length d) (s.pages * 512) (ltb l s.logical) 1)
 never_1_4_5 s im w (power_up table cut) =
     fine_number (power_up_refusal s im (blocks_of s im) (length table)) cut (power_up_list s (blocks_of s im))
-    (power_up_refusal_lem s im w Fine (length table) (λ t. fine 2 tt) (fine 0 tt))
+    (power_up_refusal_lem s im w (λ r. Fine (numbered r)) (length table) (λ t. fine 2 tt) (fine 0 tt))
 
 pub stays_well_formed : StaysWellFormed
 stays_well_formed h =
@@ -236,13 +242,13 @@ block_write_lists s c l d = (renewal-programs s c l _, renewal-erases s c l _)
 
 -- a write or block write in range, of the length asked
 is_taken : (s : Shape) (im : Image) → RecoveredCard s im → (size want : ℕ) (place : Bool) (needed cut : ℕ) (ts : List Step) → T place → size ≡ want
-    → let k : ℕ = first_refusal (writing_tests s im (blocks_of s im) (eqb size want) place needed) in
-    let n : ℕ = number (unless k (refused_by k) (carried_out cut ts)).answer in
+    → let k : Option Refusal = first_refusal (writing_tests s im (blocks_of s im) (eqb size want) place needed) in
+    let n : ℕ = number (unless k refused_by (carried_out cut ts)).answer in
     (n ≡ 0) ⊎ ((n ≡ 7) ⊎ (n ≡ 8))
 is_taken s im r size want place needed cut ts t long =
-    let k : ℕ = first_refusal (writing_tests s im (blocks_of s im) (eqb size want) place needed) in
-    let none-but-7 : (k ≡ 0) ⊎ (k ≡ 7) =
-    writing_refusal s im (of_card s im r).0 (λ m. (m ≡ 0) ⊎ (m ≡ 7)) size want place needed
+    let k : Option Refusal = first_refusal (writing_tests s im (blocks_of s im) (eqb size want) place needed) in
+    let none-but-7 : (numbered k ≡ 0) ⊎ (numbered k ≡ 7) =
+    writing_refusal s im (of_card s im r).0 (λ m. (numbered m ≡ 0) ⊎ (numbered m ≡ 7)) size want place needed
     (λ u. absurd (T_not (eqb size want) u (eq→eqb size want long))) (λ u. absurd (T_not place u t)) (λ u. absurd (r.not6 u)) (inr refl) (inl refl) in
     elim (number-cases k cut ts) [
       | inl e ↦ elim none-but-7 [ inl z ↦ inl (e ∙ z) | inr z ↦ inr (inl (e ∙ z)) ]
@@ -260,13 +266,13 @@ block_write_is_taken s im r l d cut =
     is_taken s im r (length d) (s.pages * 512) (ltb l s.logical) 1 cut (block_write_list s (blocks_of s im) l d)
 
 -- answered 0, a command leaves what its whole list leaves
-leaves : (s : Shape) (im : Image) (n cut : ℕ) (ts : List Step)
-    → (n ≡ 0 → Sound s (steps_done s ts im) × Recovered s (blocks_of s (steps_done s ts im)))
-    → number (unless n (refused_by n) (carried_out cut ts)).answer ≡ 0 → RecoveredCard s (image_left s im (unless n (refused_by n) (carried_out cut ts)))
-leaves s im n cut ts f z =
-    let q = answered_0 n cut ts z in
-    let r = f q.0 in
-    rw (q.0, q.1) (card_of s (steps_done s ts im) r.0 r.1)
+leaves : (s : Shape) (im : Image) (r : Option Refusal) (cut : ℕ) (ts : List Step)
+    → (r ≡ None → Sound s (steps_done s ts im) × Recovered s (blocks_of s (steps_done s ts im)))
+    → number (unless r refused_by (carried_out cut ts)).answer ≡ 0 → RecoveredCard s (image_left s im (unless r refused_by (carried_out cut ts)))
+leaves s im r cut ts f z =
+    let q = answered_0 r cut ts z in
+    let e = f q.0 in
+    rw (q.0, q.1) (card_of s (steps_done s ts im) e.0 e.1)
 
 pub power_up_recovers : PowerUpRecovers
 unfolding power_up_reply
@@ -293,16 +299,17 @@ table_same s c c' f (suc l) = cc (table_same s c c' f l, (f l).0, (f l).1)
 pub table_of_the_image_left : TableOfTheImageLeft
 unfolding table_left power_up_reply steps_done
 table_of_the_image_left s im old cut z =
-    ap (λ (n : ℕ). unless n old (table_of s (blocks_of s im) s.logical)) z ∙ go (power_up_refusal s im (blocks_of s im) (length old)) refl
+    cond_yes (eqb (number (power_up_reply s im (length old) cut).answer) 0) (table_of s (blocks_of s im) s.logical) old (eq→eqb _ 0 z)
+    ∙ go (power_up_refusal s im (blocks_of s im) (length old)) refl
   where
     -- an image that no step has changed, or one with obsolete blocks erased
-    go : (n : ℕ) → power_up_refusal s im (blocks_of s im) (length old) ≡ n
-        → let im' : Image = image_left s im (unless n (refused_by n) (carried_out cut (power_up_list s (blocks_of s im)))) in
+    go : (r : Option Refusal) → power_up_refusal s im (blocks_of s im) (length old) ≡ r
+        → let im' : Image = image_left s im (unless r refused_by (carried_out cut (power_up_list s (blocks_of s im)))) in
         table_of s (blocks_of s im) s.logical ≡ table_of s (blocks_of s im') s.logical
-    go zero e =
+    go None e =
         table_same s (blocks_of s im) (blocks_of s (steps_done s (take cut (power_up_list s (blocks_of s im))) im))
         (power_up_cut s im (power_up_taken s im (length old) e) cut).places s.logical
-    go (suc n) e = refl
+    go (Some r) e = refl
 
 pub there_is_a_free_block : ThereIsAFreeBlock
 there_is_a_free_block s im r = let w = of_card s im r in (taken_free s (blocks_of s im) w.0.wf w.1 w.0.enough).0

@@ -164,7 +164,7 @@ unfolding format_reply format_refusal
 format_done s im cut z =
     let ts : List Step = format_list s (blocks_of s im) in
     let q = answered_0 (format_refusal s im (blocks_of s im)) cut ts z in
-    let (f₁, (f₄, _)) = first_none (format_tests s im (blocks_of s im)) tt q.0 in
+    let (f₁, (f₄, _)) = first_none (format_tests s im (blocks_of s im)) q.0 in
     let w = within_limits_within s (length im.bytes) (length im.spare) (passes (within_limits s (length im.bytes) (length im.spare)) f₁) in
     let enough = nltb→le (good_blocks s (blocks_of s im)) (good_needed s) (not_T (too_few_good s (blocks_of s im)) f₄) in
     rw q.0 (list_leaves s im w enough (carried_out cut ts) q.1)

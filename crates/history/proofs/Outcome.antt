@@ -3,12 +3,15 @@ use mathlib.Core.Path.{◌≡◌, refl, sym, ap, ◌∙◌, subst}
 use mathlib.Core.Logic.{◌≢◌, ◌⊎◌, inl, inr}
 use mathlib.Core.Bool.{Bool, true, false, ◌&&◌, ◌||◌, cond, and-false}
 use mathlib.Core.List.{List, [], ◌∷◌, ◌++◌, map}
-use Prim.Native.Nat.{ℕ, zero, suc, ◌+◌, ◌≤◌, ◌<◌}
+use Prim.Native.Nat.{ℕ, ◌+◌, ◌≤◌, ◌<◌}
 use native.Mathlib.Omega.{arith}
 use lib.ListN.{length, take, length-append}
-use lib.Dec.{T, ltb, eqb, eqb-suc-zero, ltb→lt}
-use borrow.Author.Tests.{lt-ltb, le-ltb, ne_eqb}
+use lib.Dec.{T, ltb, eqb, ltb→lt}
+use borrow.Author.Tests.{lt-ltb, le-ltb}
+use Rattle.std.specs.Prelude.{Option, Some, None}
 use Rattle.rules.specs.declared.shape.Shape.{Shape}
+use Rattle.rules.specs.declared.refusal.Refusal.{Refusal}
+use Rattle.rules.specs.declared.refusal.Refusal.TheVariants.{OutsideLimits, WrongLength, OutOfRange, TooFewGood, IllFormed, Unrecovered, OutOfNumbers}
 use Rattle.rules.specs.declared.block.Block.{Block}
 use Rattle.rules.specs.Shape.{block_of, offset_of}
 use Rattle.rules.specs.Below.{pick_below}
@@ -121,10 +124,10 @@ module _ (s : Shape) (im : Image) (w : Sound s im) (x : Command) where
       here = ap (λ (ts : List Step). steps_done s ts im) (sym e)
 
   -- refused, or carried out
-  refused_or : (n cut : ℕ) (ts : List Step) → (n ≡ 0 → Outcome s im x (carried_out cut ts))
-      → ((m a : ℕ) (v : List ℕ) → page_after s x (refused_by (suc m)) a v ≡ v) → Outcome s im x (unless n (refused_by n) (carried_out cut ts))
-  refused_or zero cut ts f same = f refl
-  refused_or (suc n) cut ts f same = nothing (refused_by (suc n)) refl refl (same n)
+  refused_or : (r : Option Refusal) (cut : ℕ) (ts : List Step) → (r ≡ None → Outcome s im x (carried_out cut ts))
+      → ((q : Refusal) (a : ℕ) (v : List ℕ) → page_after s x (refused_by q) a v ≡ v) → Outcome s im x (unless r refused_by (carried_out cut ts))
+  refused_or None cut ts f same = f refl
+  refused_or (Some q) cut ts f same = nothing (refused_by q) refl refl (same q)
 
 -- ---- a write or block write that is not refused
 
@@ -239,29 +242,34 @@ module _ (s : Shape) (im : Image) (d : List ℕ) (cut : ℕ) where
 -- ---- any command
 
 -- what is refused has not happened
-refused_not : (n : ℕ) (b : Bool) → b ≡ false → (answered 0 (refused_by (suc n)) || (answered 8 (refused_by (suc n)) && b)) ≡ false
-refused_not n b e =
-    ap (λ (t : Bool). t || (eqb (suc n) 8 && b)) (eqb-suc-zero n) ∙ ap (λ (t : Bool). eqb (suc n) 8 && t) e ∙ and-false (eqb (suc n) 8)
+refused_not : (r : Refusal) (b : Bool) → (answered 0 (refused_by r) || (answered 8 (refused_by r) && b)) ≡ false
+refused_not OutsideLimits b = refl
+refused_not WrongLength b = refl
+refused_not OutOfRange b = refl
+refused_not TooFewGood b = refl
+refused_not IllFormed b = refl
+refused_not Unrecovered b = refl
+refused_not OutOfNumbers b = refl
 
 module _ (s : Shape) (im : Image) (w : Sound s im) where
   write_any : (a : ℕ) (d : List ℕ) (cut : ℕ) → Outcome s im (write a d cut) (write_reply s im a d cut)
   unfolding write_reply happened own_done
   write_any a d cut =
       refused_or s im w (write a d cut) (write_refusal s im (blocks_of s im) (length d) a) cut (write_list s im (blocks_of s im) a d)
-      (λ e. write_outcome s im d cut a (write_taken s im (length d) a e)) (λ n y v. rw (refused_not n false refl, and-false) refl)
+      (λ e. write_outcome s im d cut a (write_taken s im (length d) a e)) (λ r y v. rw (refused_not r false, and-false) refl)
 
   block_write_any : (l : ℕ) (d : List ℕ) (cut : ℕ) → Outcome s im (block_write l d cut) (block_write_reply s im l d cut)
   unfolding block_write_reply block_happened
   block_write_any l d cut =
       refused_or s im w (block_write l d cut) (block_write_refusal s im (blocks_of s im) (length d) l) cut (block_write_list s (blocks_of s im) l d)
       (λ e. block_write_outcome s im d cut l (block_write_taken s im (length d) l e))
-      (λ n y v. rw (refused_not n (eqb 0 s.pages) (ne_eqb 0 s.pages (λ e. omega (arith, w.fits.limits.pages_low))), and-false) refl)
+      (λ r y v. rw (refused_not r (eqb 0 s.pages), and-false) refl)
 
   read_any : (a : ℕ) (buffer : List ℕ) → Outcome s im (read a buffer) (read_reply s im (length buffer) a)
   unfolding read_reply
   read_any a buffer =
       refused_or s im w (read a buffer) (read_refusal s im (blocks_of s im) (length buffer) a) 0 []
-      (λ e. nothing s im w (read a buffer) (carried_out 0 []) refl refl (λ y v. refl)) (λ n y v. refl)
+      (λ e. nothing s im w (read a buffer) (carried_out 0 []) refl refl (λ y v. refl)) (λ r y v. refl)
 
   power_up_any : (table : List ℕ) (cut : ℕ) → Outcome s im (power_up table cut) (power_up_reply s im (length table) cut)
   unfolding power_up_reply
@@ -277,7 +285,7 @@ module _ (s : Shape) (im : Image) (w : Sound s im) where
           omega (arith, q.total),
         );
       })
-      (λ n y v. refl)
+      (λ r y v. refl)
     where
       ts' : List Step
       ts' = power_up_list s (blocks_of s im)

@@ -1,5 +1,5 @@
 -- The own program of a write: the next page of the live log block, or the first of a block just taken, and the erase after it.
-use mathlib.Core.Path.{◌≡◌, refl, sym, ap, ◌∙◌, subst}
+use mathlib.Core.Path.{◌≡◌, sym, ap, ◌∙◌, subst}
 use mathlib.Core.Logic.{◌≢◌, ◌⊎◌, inl, inr}
 use mathlib.Core.Bool.{Bool, cond}
 use mathlib.Core.List.{List, map}
@@ -9,9 +9,10 @@ use native.Mathlib.Numerals.{add-one}
 use lib.ListN.{length}
 use lib.Dec.{T, eqb, eqb→eq}
 use Rattle.rules.specs.declared.shape.Shape.{Shape}
+use Rattle.rules.specs.declared.kind.Kind.TheVariants.{Log}
 use Rattle.rules.specs.declared.block.Block.{Block}
 use Rattle.rules.specs.Below.{none, if_any}
-use Rattle.rules.specs.Spare.{number_limit, log_kind}
+use Rattle.rules.specs.Spare.{number_limit}
 use Rattle.rules.specs.Shape.{page_no, block_of, offset_of, logical_page, in_range}
 use Rattle.rules.specs.Page.{Image, page_bytes}
 use Rattle.rules.specs.WellFormed.{Blocks, is_free, is_used, is_complete, data_number, is_data, is_live, is_obsolete, data_block, live_log, live_logs, blocks_of}
@@ -21,6 +22,7 @@ use Rattle.laws.proofs.Tests.{bool_ext, dec_eq, eq→eqb}
 use Rattle.laws.proofs.Below.{All, found_all, found_distinct, found_out, count_below_one}
 use Rattle.laws.proofs.Shape.{logical_page_of, offset_of_below, in_range_block, in_range_small}
 use Rattle.laws.proofs.Blocks.{one_more, Writable, Joins}
+use Rattle.laws.proofs.Pages.{is_log_is}
 use Rattle.laws.proofs.Roles.{free_good, free_not_used, good_below, used_below, below_none, none_filled, complete_e, data_e, data_used, live_e, live_used, data_not_live, obsolete_e, data_number_below, WellFormed, has_some, data_block_found, data_block_is, live_log_is, live_log_none, Recovered, highest_ge}
 use Rattle.laws.proofs.Change.{changed, changed_same, changed_other, Fitting, NoLive, LiveIs, good_blocks_kept, data_block_kept, below_obsolete, Completed, complete, complete_obsolete, LogGrown, append, begin}
 use Rattle.laws.proofs.Content.{offset_at, content-append, content_fill}
@@ -89,35 +91,35 @@ module _ (s : Shape) (im : Image) {a : ℕ} {d : List ℕ} {b n : ℕ} (r : Read
   f = (c b).filled
 
   abbrev x : Block
-  x = one_more s (c b) n log_kind a
+  x = one_more s (c b) n Log a
 
   abbrev im' : Image
-  im' = step_done s (next_step s im b n log_kind a d) im
+  im' = step_done s (next_step s im b n Log a d) im
 
   abbrev c' : Blocks
   c' = changed c b x
 
   -- ---- what b is
 
-  table : Writable n log_kind a
+  table : Writable n a
   table =
       let low : 1 ≤ n = elim r.place [
         | inl p ↦ omega (arith, (used_numbers s im w.fits b (live_used s c b p.0)).0, p.2)
         | inr p ↦ omega (arith, p.3)
       ] in
-      record { number_low = low; number_high = r.high; kind = inl refl; address = in_range_small s w.fits.limits (logical_few s im w) a r.inside }
+      record { number_low = low; number_high = r.high; address = in_range_small s w.fits.limits (logical_few s im w) a r.inside }
 
-  joins : Joins s (blocks_of s im b) n log_kind a
+  joins : Joins s (blocks_of s im b) n Log a
   joins =
       record {
-        own = elim r.place [ inl p ↦ inr (live_used s c b p.0, p.2, (live_e s c b p.0).log, p.1) | inr p ↦ inl p.0 ];
+        own = elim r.place [ inl p ↦ inr (live_used s c b p.0, p.2, is_log_is (c b).kind (live_e s c b p.0).log, p.1) | inr p ↦ inl p.0 ];
         room = r.below;
         in_range = r.inside;
-        offset = λ e. absurd (omega arith);
+        offset = λ t. absurd t;
       }
 
-  pub done : Programmed s im b n log_kind a d (step_done s (next_step s im b n log_kind a d) im)
-  done = program_done s im w.fits b n log_kind a d table joins r.long
+  pub done : Programmed s im b n Log a d (step_done s (next_step s im b n Log a d) im)
+  done = program_done s im w.fits b n Log a d table joins r.long
 
   pub b_below : b < s.blocks
   b_below =
@@ -211,8 +213,8 @@ module _ (s : Shape) (im : Image) {a : ℕ} {d : List ℕ} {b n : ℕ} (r : Read
     made : LogGrown s c b x
     made =
         elim r.place [
-          | inl p ↦ append s c b x w.wf x_allowed tt refl open' not_data above p.0 p.1
-          | inr p ↦ begin s c b x w.wf x_allowed tt refl open' not_data above p.1 p.2
+          | inl p ↦ append s c b x w.wf x_allowed tt tt open' not_data above p.0 p.1
+          | inr p ↦ begin s c b x w.wf x_allowed tt tt open' not_data above p.1 p.2
         ]
 
     log_is : live_log s c' l ≡ b
@@ -245,7 +247,7 @@ module _ (s : Shape) (im : Image) {a : ℕ} {d : List ℕ} {b n : ℕ} (r : Read
               | inr p ↦ omega (arith, most, ap (λ (z : Block). z.filled) (w.wf.records.free b p.0))
             ]
 
-    pub own_appends : Appends s im a d (step_done s (next_step s im b n log_kind a d) im)
+    pub own_appends : Appends s im a d (step_done s (next_step s im b n Log a d) im)
     own_appends =
         record {
           sound = sound_with made.wf;
@@ -344,7 +346,7 @@ module _ (s : Shape) (im : Image) {a : ℕ} {d : List ℕ} {b n : ℕ} (r : Read
         (used_below s (blocks_of s im') fill_sound.wf.records j (obsolete_e s (blocks_of s im') j r.0).0))
         r.1 (obsolete_then j r.0)
 
-    pub own_fills : Fills s im a d b (step_done s (next_step s im b n log_kind a d) im)
+    pub own_fills : Fills s im a d b (step_done s (next_step s im b n Log a d) im)
     unfolding obsoletes
     own_fills =
         record {

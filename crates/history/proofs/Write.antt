@@ -8,9 +8,10 @@ use native.Mathlib.Omega.{arith}
 use lib.ListN.{length}
 use lib.Dec.{T, T_not}
 use Rattle.rules.specs.declared.shape.Shape.{Shape}
+use Rattle.rules.specs.declared.kind.Kind.TheVariants.{Log}
 use Rattle.rules.specs.declared.block.Block.{Block}
 use Rattle.rules.specs.Below.{if_any}
-use Rattle.rules.specs.Spare.{number_limit, log_kind}
+use Rattle.rules.specs.Spare.{number_limit}
 use Rattle.rules.specs.Shape.{block_of, in_range}
 use Rattle.rules.specs.Page.{Image}
 use Rattle.rules.specs.WellFormed.{Blocks, is_complete, data_block, block_at, blocks_of}
@@ -42,10 +43,10 @@ module _ (s : Shape) (im : Image) (w : Sound s im) (rec : Recovered s (blocks_of
   c₁ = blocks_of s im₁
 
   abbrev x : Block
-  x = one_more s (c₁ b) n log_kind a
+  x = one_more s (c₁ b) n Log a
 
   abbrev im₂ : Image
-  im₂ = step_done s (next_step s im₁ b n log_kind a d) im₁
+  im₂ = step_done s (next_step s im₁ b n Log a d) im₁
 
   abbrev Post : ℕ → Image → Type 0
   Post = Happened s im (written a d (content_of s im)) l (Victim s im l) 1
@@ -62,7 +63,7 @@ module _ (s : Shape) (im : Image) (w : Sound s im) (rec : Recovered s (blocks_of
   abbrev OwnGoal : Type 0
   OwnGoal =
       Along s Post e (map erase after) im₂ × Recovered s (blocks_of s (steps_done s (map erase after) im₂))
-      × Allowed s (next_step s im₁ b n log_kind a d) im₁
+      × Allowed s (next_step s im₁ b n Log a d) im₁
 
   ready : Ready s im₁ a d b n
   ready =
@@ -76,7 +77,7 @@ module _ (s : Shape) (im : Image) (w : Sound s im) (rec : Recovered s (blocks_of
         high = r.high;
       }
 
-  made : Programmed s im₁ b n log_kind a d im₂
+  made : Programmed s im₁ b n Log a d im₂
   made = done s im₁ ready
 
   x_there : block_at s im₂ b ≡ x

@@ -1,7 +1,6 @@
 -- Demands 2 and 3 of every history, as statements; docs/PROMISES.md has them in words, and proofs/Demands.antt the proofs.
-use Rattle.std.specs.Prelude.{◌≡◌, ◌≢◌, ◌⊎◌, Bool, List, ℕ, ◌+◌, ◌*◌, ◌/◌, ◌≤◌, T, ltb, length, take}
+use Rattle.std.specs.Prelude.{◌≡◌, ◌≢◌, ◌⊎◌, Bool, Some, None, List, ℕ, ◌+◌, ◌*◌, ◌/◌, ◌≤◌, T, ltb, length, take}
 use Rattle.rules.specs.declared.shape.Shape.{Shape}
-use Rattle.rules.specs.declared.place.Place.TheVariants.{At}
 use Rattle.rules.specs.Below.{count_below}
 use Rattle.rules.specs.Shape.{block_of, in_range}
 use Rattle.rules.specs.Page.{Image}
@@ -36,7 +35,7 @@ OnAnyImage =
 -- Where a page is lent, a read of it gives the bytes lent.
 abbrev pub LendsWhatIsRead : Type 0
 LendsWhatIsRead =
-    (s : Shape) (im : Image) (a p : ℕ) (buffer : List ℕ) → length buffer ≡ 512 → lent_page s im a ≡ At p
+    (s : Shape) (im : Image) (a p : ℕ) (buffer : List ℕ) → length buffer ≡ 512 → lent_page s im a ≡ Some p
     → page_left s im buffer a ≡ lent_bytes im (lent_page s im a)
 
 -- Of the whole list of steps done in a history: no page is programmed twice between erases, and each program finds its 528 bytes all 255.
@@ -78,7 +77,7 @@ FewLogicalBlocks =
 
 -- none of 1 to 7 refuses the write of page a with the bytes d
 abbrev pub NotRefused : Shape → Image → ℕ → List ℕ → Type 0
-NotRefused s im a d = write_refusal s im (blocks_of s im) (length d) a ≡ 0
+NotRefused s im a d = write_refusal s im (blocks_of s im) (length d) a ≡ None
 
 -- On any image: no write that is not refused has more than P + 1 programs and 2 erases in its list.
 abbrev pub ShortLists : Type 0

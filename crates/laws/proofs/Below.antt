@@ -155,15 +155,6 @@ unfolding count_below
 count_below_all zero p f = refl
 count_below_all (suc n) p f = omega (arith, count_below_all n p (λ j h. f j (omega arith)), bit_one (p n) (f n (omega arith)))
 
-pub count_below_full : (n : ℕ) (p : ℕ → Bool) → count_below n p ≡ n → (j : ℕ) → j < n → T (p j)
-unfolding count_below
-count_below_full zero p e j h = absurd (omega arith)
-count_below_full (suc n) p e j h =
-    elim (tcase (p n)) [
-      | inl t ↦ below_suc (λ k. T (p k)) (count_below_full n p (omega (arith, bit_one (p n) t))) t j h
-      | inr t ↦ absurd (omega (arith, bit_zero (p n) (T_not (p n) t), count_below-most n p))
-    ]
-
 -- those that pass go by f, no two to one place, to places below m of weight 1 or more
 pub count_below_places : (n m : ℕ) (p : ℕ → Bool) (f w : ℕ → ℕ) → ((j : ℕ) → j < n → T (p j) → f j < m) → ((j : ℕ) → j < n → T (p j) → 0 < w (f j))
     → ((i j : ℕ) → i < n → j < n → T (p i) → T (p j) → f i ≡ f j → i ≡ j) → count_below n p ≤ sum_below m w
@@ -574,10 +565,6 @@ pub all_below-zero : (p : ℕ → Bool) → true ≡ all_below 0 p
 unfolding all_below
 all_below-zero p = refl
 
--- one turn of a search for the first that passes
-pub first_turn : (p : ℕ → Bool) (j : ℕ) {t r : ℕ} {b : Bool} → t ≡ first_below j p → b ≡ p j → r ≡ or_none t (cond b j none) → r ≡ first_below (j + 1) p
-first_turn p j e f g = g ∙ rw (f, e) (sym (first_below_more j p))
-
--- and of a test of all
+-- one turn of a test of all
 pub all_turn : (p : ℕ → Bool) (j : ℕ) {t r b : Bool} → t ≡ all_below j p → b ≡ p j → r ≡ (t && b) → r ≡ all_below (j + 1) p
 all_turn p j e f g = g ∙ rw (f, e) (sym (all_below_more j p))

@@ -9,15 +9,18 @@ use native.Mathlib.Omega.{arith}
 use borrow.Author.Tests.{ne_eqb}
 use lib.Dec.{T, eqb, T_not, eqb→eq}
 use lib.ListN.{length, get_or}
+use Rattle.std.specs.Prelude.{Option, Some, None}
 use Rattle.rules.specs.declared.shape.Shape.{Shape}
+use Rattle.rules.specs.declared.kind.Kind.{Kind}
+use Rattle.rules.specs.declared.kind.Kind.TheVariants.{Copy}
 use Rattle.rules.specs.declared.page.Page.{Page}
 use Rattle.rules.specs.declared.page.Page.TheVariants.{Erased, Entry}
 use Rattle.rules.specs.declared.block.State.TheVariants.{Free, Used}
 use Rattle.rules.specs.declared.block.Block.{Block}
 use Rattle.rules.specs.Below.{all_below, list_below}
-use Rattle.rules.specs.Spare.{number_limit, copy_kind, number_in, kind_in, status_in, address_in, spare_bytes}
+use Rattle.rules.specs.Spare.{number_limit, kind_byte, kind_for, number_in, kind_in, status_in, address_in, spare_bytes}
 use Rattle.rules.specs.Shape.{page_no, block_of, offset_of, logical_page, in_range}
-use Rattle.rules.specs.Page.{Image, page_bytes, page_spare, page_at, is_entry, number_of, kind_of, address_of}
+use Rattle.rules.specs.Page.{Image, page_bytes, page_spare, page_at, is_entry, number_of, kind_of, address_of, is_copy}
 use Rattle.rules.specs.WellFormed.{not_used, in_order, good_block, bad_mark, is_marked, is_bad, pages_of, block_at, blocks_of, is_good, is_used, is_free}
 use Rattle.rules.specs.Steps.{Step, program, erase, step_done, steps_done, entry_step, copy_step}
 use Rattle.rules.specs.Facts.{Fits}
@@ -26,7 +29,7 @@ use Rattle.laws.proofs.Below.{All, all_below_at, list_below_same}
 use Rattle.laws.proofs.Filled.{Filled, used_with, free_good_block, filled_good_block, UsedPages, good_block_free, good_block_used, NextPage, PageAdded, filled_more, in_order_more}
 use Rattle.laws.proofs.Records.{blocks_of_at, blocks_of_outside, pages_of_at, block_at_bad, block_at_good}
 use Rattle.laws.proofs.Shape.{page_no_below, page_no_same_block, page_no_same_place, logical_page_block, logical_page_offset, block_in_range, in_range_small}
-use Rattle.laws.proofs.Spare.{Kind, InTable, spare_bytes-length, spare_bytes_status}
+use Rattle.laws.proofs.Spare.{InTable, spare_bytes-length, spare_bytes_status}
 use Rattle.laws.proofs.Roles.{used_good, free_good}
 use Rattle.laws.proofs.Pages.{SamePage, same_page_then, page_at_is, page_at-same, page_of-spare_bytes, page_of-is_entry, Programs, program_fits, program_page, program_other, erase_fits, erase_page, erase-page_at, StepIn, step_block, step_other, StepsIn, Apart, steps_other, steps_done-append}
 
@@ -59,22 +62,22 @@ module _ (s : Shape) (b : ℕ) (two : 2 ≤ s.pages) where
 -- ---- a block of an image
 
 -- it is good, and its pages are so filled
-pub record BlockFilled (s : Shape) (im : Image) (b n k l m : ℕ) : Type 0 where
+pub record BlockFilled (s : Shape) (im : Image) (b n : ℕ) (k : Option Kind) (l m : ℕ) : Type 0 where
   pub good : T (is_bad s im b) → ⊥
   pub pages : Filled s (pages_of s im b) n k l m
 
 module _ (s : Shape) (im : Image) (b : ℕ) where
-  pub filled_block_at : {n k l m : ℕ} → BlockFilled s im b n k l m → 0 < m → block_at s im b ≡ used_with n k l m (in_order s (pages_of s im b) m)
+  pub filled_block_at : {n : ℕ} {k : Option Kind} {l m : ℕ} → BlockFilled s im b n k l m → 0 < m → block_at s im b ≡ used_with n k l m (in_order s (pages_of s im b) m)
   filled_block_at f h = block_at_good s im b f.good ∙ filled_good_block s (pages_of s im b) f.pages h
 
-  pub blank_block_at : {n k l : ℕ} → BlockFilled s im b n k l 0 → block_at s im b ≡ not_used Free
+  pub blank_block_at : {n : ℕ} {k : Option Kind} {l : ℕ} → BlockFilled s im b n k l 0 → block_at s im b ≡ not_used Free
   blank_block_at f = block_at_good s im b f.good ∙ free_good_block s (pages_of s im b) (λ i h. f.pages.blank i (omega arith) h)
 
   -- bad blocks are neither free nor used
   pub is_good_good : T (is_good (block_at s im b).state) → T (is_bad s im b) → ⊥
   is_good_good t bad = subst (λ (x : Block). T (is_good x.state)) (block_at_bad s im b bad) t
 
-  pub free_block_filled : T (is_free (block_at s im b).state) → (n k l : ℕ) → BlockFilled s im b n k l 0
+  pub free_block_filled : T (is_free (block_at s im b).state) → (n : ℕ) (k : Option Kind) (l : ℕ) → BlockFilled s im b n k l 0
   free_block_filled t n k l = record { good = good; pages = pages }
     where
       good : T (is_bad s im b) → ⊥
@@ -85,6 +88,8 @@ module _ (s : Shape) (im : Image) (b : ℕ) where
           record {
             most = omega arith;
             entry = λ i h. absurd (omega arith);
+            number = λ i h. absurd (omega arith);
+            kind = λ i h. absurd (omega arith);
             in_range = λ i h. absurd (omega arith);
             block = λ i h. absurd (omega arith);
             offset = λ c i h. absurd (omega arith);
@@ -199,19 +204,18 @@ module _ (s : Shape) where
 -- ---- the next page of a block is programmed
 
 -- what the spare table can hold
-pub record Writable (n k a : ℕ) : Type 0 where
+pub record Writable (n a : ℕ) : Type 0 where
   pub number_low : 1 ≤ n
   pub number_high : n ≤ number_limit
-  pub kind : Kind k
   pub address : a < 65536
 
-module _ (s : Shape) (im : Image) (w : Fits s im) (b : ℕ) (hb : b < s.blocks) {n k l m a : ℕ} (f : BlockFilled s im b n k l m) (x : NextPage s k l m a)
-    (e : Writable n k a) (d : List ℕ) (hd : length d ≡ 512) where
+module _ (s : Shape) (im : Image) (w : Fits s im) (b : ℕ) (hb : b < s.blocks) {n : ℕ} {k : Kind} {l m a : ℕ} (f : BlockFilled s im b n (Some k) l m)
+    (x : NextPage s k l m a) (e : Writable n a) (d : List ℕ) (hd : length d ≡ 512) where
   after : Image
-  after = step_done s (entry_step (page_no s b m) n k a d) im
+  after = step_done s (entry_step (page_no s b m) n (kind_byte k) a d) im
 
-  programs : Programs s (page_no s b m) d (spare_bytes n k a)
-  programs = record { page_in = page_no_below s b m hb x.room; bytes_long = hd; spare_long = spare_bytes-length n k a }
+  programs : Programs s (page_no s b m) d (spare_bytes n (kind_byte k) a)
+  programs = record { page_in = page_no_below s b m hb x.room; bytes_long = hd; spare_long = spare_bytes-length n (kind_byte k) a }
 
   other : (i : ℕ) → i < s.pages → i ≢ m → SamePage after im (page_no s b i)
   unfolding after
@@ -222,29 +226,29 @@ module _ (s : Shape) (im : Image) (w : Fits s im) (b : ℕ) (hb : b < s.blocks) 
   added =
       record {
         here = pages_of_at s after b m x.room ∙ page_at_is (program_page s im w programs)
-            ∙ page_of-spare_bytes d n k a e.number_low e.number_high e.kind e.address;
+            ∙ page_of-spare_bytes d n k a e.number_low e.number_high e.address;
         others = λ i h ne. pages_of_at s after b i h ∙ page_at-same after im (page_no s b i) (other i h ne) ∙ sym (pages_of_at s im b i h);
       }
 
-  pub program_block_filled : BlockFilled s (step_done s (entry_step (page_no s b m) n k a d) im) b n k l (m + 1)
+  pub program_block_filled : BlockFilled s (step_done s (entry_step (page_no s b m) n (kind_byte k) a d) im) b n (Some k) l (m + 1)
   unfolding after
   program_block_filled =
       record {
-        good = program_good s im w programs (spare_bytes_status n k a) b f.good;
+        good = program_good s im w programs (spare_bytes_status n (kind_byte k) a) b f.good;
         pages = filled_more s (pages_of s im b) (pages_of s after b) f.pages x added;
       }
 
-  pub program-in_order : in_order s (pages_of s (step_done s (entry_step (page_no s b m) n k a d) im) b) (m + 1)
+  pub program-in_order : in_order s (pages_of s (step_done s (entry_step (page_no s b m) n (kind_byte k) a d) im) b) (m + 1)
       ≡ (in_order s (pages_of s im b) m && eqb (offset_of s a) m)
   unfolding after
   program-in_order = in_order_more s (pages_of s im b) (pages_of s after b) f.pages x added
 
 -- The record of a block whose next page gets number n, kind k and logical page a.
-abbrev pub one_more : Shape → Block → ℕ → ℕ → ℕ → Block
+abbrev pub one_more : Shape → Block → ℕ → Kind → ℕ → Block
 one_more s x n k a =
     record {
       state = Used;
-      kind = k;
+      kind = Some k;
       number = n;
       logical = block_of s a;
       filled = x.filled + 1;
@@ -252,30 +256,30 @@ one_more s x n k a =
     }
 
 -- number n, kind k and logical page a may be those of the next page of a block with record x: it is free, or they are its own
-pub record Joins (s : Shape) (x : Block) (n k a : ℕ) : Type 0 where
-  pub own : T (is_free x.state) ⊎ (T (is_used x.state) × (x.number ≡ n) × (x.kind ≡ k) × (x.logical ≡ block_of s a))
+pub record Joins (s : Shape) (x : Block) (n : ℕ) (k : Kind) (a : ℕ) : Type 0 where
+  pub own : T (is_free x.state) ⊎ (T (is_used x.state) × (x.number ≡ n) × (x.kind ≡ Some k) × (x.logical ≡ block_of s a))
   pub room : x.filled < s.pages
   pub in_range : T (in_range s a)
-  pub offset : k ≡ copy_kind → offset_of s a ≡ x.filled
+  pub offset : T (is_copy (Some k)) → offset_of s a ≡ x.filled
 
-module _ (s : Shape) (im : Image) (w : Fits s im) (b : ℕ) (hb : b < s.blocks) {n k a : ℕ} (e : Writable n k a) (d : List ℕ) (hd : length d ≡ 512) where
-  -- the pages of block b, with record x, are ready for one more
-  record Ready (x : Block) : Type 0 where
-    filled : BlockFilled s im b n k (block_of s a) x.filled
-    so_far : in_order s (pages_of s im b) x.filled ≡ (eqb x.filled 0 || x.ordered)
+-- the pages of block b, with record x, are ready for one more
+record Ready (s : Shape) (im : Image) (b n : ℕ) (k : Kind) (a : ℕ) (x : Block) : Type 0 where
+  filled : BlockFilled s im b n (Some k) (block_of s a) x.filled
+  so_far : in_order s (pages_of s im b) x.filled ≡ (eqb x.filled 0 || x.ordered)
 
-  ready_free : (x : Block) → block_at s im b ≡ x → T (is_free x.state) → Ready x
+module _ (s : Shape) (im : Image) (w : Fits s im) (b : ℕ) (hb : b < s.blocks) {n : ℕ} {k : Kind} {a : ℕ} (e : Writable n a) (d : List ℕ) (hd : length d ≡ 512) where
+  ready_free : (x : Block) → block_at s im b ≡ x → T (is_free x.state) → Ready s im b n k a x
   unfolding all_below
   ready_free x is t =
       let t' : T (is_free (block_at s im b).state) = subst (λ (y : Block). T (is_free y.state)) (sym is) t in
-      let f : BlockFilled s im b n k (block_of s a) 0 = free_block_filled s im b t' n k (block_of s a) in
+      let f : BlockFilled s im b n (Some k) (block_of s a) 0 = free_block_filled s im b t' n (Some k) (block_of s a) in
       let zero : 0 ≡ x.filled = ap (λ (y : Block). y.filled) (sym (blank_block_at s im b f) ∙ is) in
       record {
-        filled = subst (BlockFilled s im b n k (block_of s a)) zero f;
+        filled = subst (BlockFilled s im b n (Some k) (block_of s a)) zero f;
         so_far = subst (λ (m : ℕ). in_order s (pages_of s im b) m ≡ (eqb m 0 || x.ordered)) zero refl;
       }
 
-  ready_used : (x : Block) → block_at s im b ≡ x → T (is_used x.state) → x.number ≡ n → x.kind ≡ k → x.logical ≡ block_of s a → Ready x
+  ready_used : (x : Block) → block_at s im b ≡ x → T (is_used x.state) → x.number ≡ n → x.kind ≡ Some k → x.logical ≡ block_of s a → Ready s im b n k a x
   ready_used x is t number kind logical =
       let p : 0 < s.pages = omega (arith, two_pages s im w) in
       let t' : T (is_used (block_at s im b).state) = subst (λ (y : Block). T (is_used y.state)) (sym is) t in
@@ -284,20 +288,20 @@ module _ (s : Shape) (im : Image) (w : Fits s im) (b : ℕ) (hb : b < s.blocks) 
       record { good = (used_block_filled s im b p t').good; pages = u.filled } in
       record {
         filled =
-            subst (λ (l : ℕ). BlockFilled s im b n k l x.filled) logical
-            (subst (λ (j : ℕ). BlockFilled s im b n j x.logical x.filled) kind
+            subst (λ (l : ℕ). BlockFilled s im b n (Some k) l x.filled) logical
+            (subst (λ (j : Option Kind). BlockFilled s im b n j x.logical x.filled) kind
             (subst (λ (j : ℕ). BlockFilled s im b j x.kind x.logical x.filled) number f));
         so_far = sym u.ordered ∙ ap (λ (z : Bool). z || x.ordered) (sym (ne_eqb x.filled 0 (λ z. omega (arith, u.some))));
       }
 
   pub program-block_at : (x : Block) → block_at s im b ≡ x → Joins s x n k a
-      → block_at s (step_done s (entry_step (page_no s b x.filled) n k a d) im) b ≡ one_more s x n k a
+      → block_at s (step_done s (entry_step (page_no s b x.filled) n (kind_byte k) a d) im) b ≡ one_more s x n k a
   program-block_at x is j =
-      let o : Ready x = ⊎_elim (ready_free x is) (λ own. ready_used x is own.0 own.1 own.2 own.3) j.own in
+      let o : Ready s im b n k a x = ⊎_elim (ready_free x is) (λ own. ready_used x is own.0 own.1 own.2 own.3) j.own in
       let next : NextPage s k (block_of s a) x.filled a = record { room = j.room; in_range = j.in_range; block = refl; offset = j.offset } in
-      let after : Image = step_done s (entry_step (page_no s b x.filled) n k a d) im in
+      let after : Image = step_done s (entry_step (page_no s b x.filled) n (kind_byte k) a d) im in
       filled_block_at s after b (program_block_filled s im w b hb o.filled next e d hd) (omega arith)
-      ∙ ap (used_with n k (block_of s a) (x.filled + 1))
+      ∙ ap (used_with n (Some k) (block_of s a) (x.filled + 1))
       (program-in_order s im w b hb o.filled next e d hd ∙ ap (λ (z : Bool). z && eqb (offset_of s a) x.filled) o.so_far)
 
 -- ---- a block taken, and its pages programmed in order as a copy of logical block l, with the bytes d
@@ -305,7 +309,7 @@ module _ (s : Shape) (im : Image) (w : Fits s im) (b : ℕ) (hb : b < s.blocks) 
 -- im' is what the first i of these steps leave of im
 pub record Copied (s : Shape) (im : Image) (b n l : ℕ) (d : ℕ → List ℕ) (i : ℕ) (im' : Image) : Type 0 where
   pub fits : Fits s im'
-  pub filled : BlockFilled s im' b n copy_kind l i
+  pub filled : BlockFilled s im' b n (Some Copy) l i
   pub in_order : T (in_order s (pages_of s im' b) i)
   pub bytes : (o : ℕ) → o < i → page_bytes im' (page_no s b o) ≡ d o
   pub others : (j o : ℕ) → j ≢ b → o < s.pages → SamePage im' im (page_no s j o)
@@ -320,10 +324,10 @@ module _ (s : Shape) (im : Image) (w : Fits s im) (b : ℕ) (hb : b < s.blocks) 
       let in_place : offset_of s a ≡ i = logical_page_offset s l i h in
       let range : T (in_range s a) = block_in_range s w.limits a (subst (λ (k : ℕ). k < s.logical) (sym in_block_lem) hl) in
       let small : a < 65536 = in_range_small s w.limits few a range in
-      let e : Writable n copy_kind a = record { number_low = low; number_high = high; kind = inr refl; address = small } in
-      let x : NextPage s copy_kind l i a = record { room = h; in_range = range; block = in_block_lem; offset = λ k. in_place } in
-      let g : Programs s (page_no s b i) (d i) (spare_bytes n copy_kind a) =
-      record { page_in = page_no_below s b i hb h; bytes_long = long i h; spare_long = spare_bytes-length n copy_kind a } in
+      let e : Writable n a = record { number_low = low; number_high = high; address = small } in
+      let x : NextPage s Copy l i a = record { room = h; in_range = range; block = in_block_lem; offset = λ k. in_place } in
+      let g : Programs s (page_no s b i) (d i) (spare_bytes n (kind_byte Copy) a) =
+      record { page_in = page_no_below s b i hb h; bytes_long = long i h; spare_long = spare_bytes-length n (kind_byte Copy) a } in
       let after : Image = step_done s (copy_step s b n l d i) im' in
       let other : (j o : ℕ) → page_no s j o ≢ page_no s b i → SamePage after im' (page_no s j o) = λ j o. program_other s im' c.fits g (page_no s j o) in
       let order = program-in_order s im' c.fits b hb c.filled x e (d i) (long i h) in
@@ -343,7 +347,7 @@ module _ (s : Shape) (im : Image) (w : Fits s im) (b : ℕ) (hb : b < s.blocks) 
   copies_copied zero h =
       record {
         fits = w;
-        filled = free_block_filled s im b free n copy_kind l;
+        filled = free_block_filled s im b free n (Some Copy) l;
         in_order = tt;
         bytes = λ o k. absurd (omega arith);
         others = λ j o ne k. record { bytes_are = refl; spare_are = refl };
@@ -357,27 +361,27 @@ module _ (s : Shape) (im : Image) (w : Fits s im) (b : ℕ) (hb : b < s.blocks) 
 
   -- the record of the block after the first i pages, 1 to P
   pub copies-block_at : (i : ℕ) → 0 < i → i ≤ s.pages
-      → block_at s (steps_done s (list_below i (copy_step s b n l d)) im) b ≡ used_with n copy_kind l i true
+      → block_at s (steps_done s (list_below i (copy_step s b n l d)) im) b ≡ used_with n (Some Copy) l i true
   copies-block_at i some h =
       let im' : Image = steps_done s (list_below i (copy_step s b n l d)) im in
       let c : Copied s im b n l d i im' = copies_copied i h in
-      filled_block_at s im' b c.filled some ∙ ap (used_with n copy_kind l i) (is_true (in_order s (pages_of s im' b) i) c.in_order)
+      filled_block_at s im' b c.filled some ∙ ap (used_with n (Some Copy) l i) (is_true (in_order s (pages_of s im' b) i) c.in_order)
 
 -- ---- the pages of an image, by the record of their block
 
 -- page p, the page i of a used block with record x: the spare table's bytes, and W2 to W4
 pub record EntryAt (s : Shape) (im : Image) (x : Block) (p i : ℕ) : Type 0 where
   pub table : InTable (page_spare im p)
-  pub entry : page_at im p ≡ Entry x.number x.kind (address_in (page_spare im p))
+  pub entry : page_at im p ≡ Entry x.number (kind_for (kind_in (page_spare im p))) (address_in (page_spare im p))
   pub number : number_in (page_spare im p) ≡ x.number
-  pub kind : kind_in (page_spare im p) ≡ x.kind
+  pub kind : x.kind ≡ Some (kind_for (kind_in (page_spare im p)))
   pub in_range : T (in_range s (address_in (page_spare im p)))
   pub block : block_of s (address_in (page_spare im p)) ≡ x.logical
-  pub offset : x.kind ≡ copy_kind → offset_of s (address_in (page_spare im p)) ≡ i
+  pub offset : T (is_copy x.kind) → offset_of s (address_in (page_spare im p)) ≡ i
 
 module _ (s : Shape) (im : Image) (b i : ℕ) (h : i < s.pages) where
   pub free_page : T (is_free (block_at s im b).state) → page_at im (page_no s b i) ≡ Erased
-  free_page t = sym (pages_of_at s im b i h) ∙ (free_block_filled s im b t 0 0 0).pages.blank i (omega arith) h
+  free_page t = sym (pages_of_at s im b i h) ∙ (free_block_filled s im b t 0 None 0).pages.blank i (omega arith) h
 
   module _ (t : T (is_used (block_at s im b).state)) where
     used : UsedPages s (pages_of s im b) (block_at s im b)
@@ -390,24 +394,31 @@ module _ (s : Shape) (im : Image) (b i : ℕ) (h : i < s.pages) where
       spare : List ℕ
       spare = page_spare im (page_no s b i)
 
-      by_record : page_at im (page_no s b i) ≡ Entry (block_at s im b).number (block_at s im b).kind (address_of (pages_of s im b i))
-      by_record = sym (pages_of_at s im b i h) ∙ used.filled.entry i k
+      here : pages_of s im b i ≡ page_at im (page_no s b i)
+      here = pages_of_at s im b i h
 
-      by_spare : InTable spare × (page_at im (page_no s b i) ≡ Entry (number_in spare) (kind_in spare) (address_in spare))
+      by_spare : InTable spare × (page_at im (page_no s b i) ≡ Entry (number_in spare) (kind_for (kind_in spare)) (address_in spare))
       unfolding spare page_at
-      by_spare = page_of-is_entry (page_bytes im (page_no s b i)) spare (subst (λ (q : Page). T (is_entry q)) (sym by_record) tt)
+      by_spare = page_of-is_entry (page_bytes im (page_no s b i)) spare (subst (λ (q : Page). T (is_entry q)) here (used.filled.entry i k))
+
+      -- page i of the record is what the spare bytes say
+      same : pages_of s im b i ≡ Entry (number_in spare) (kind_for (kind_in spare)) (address_in spare)
+      same = here ∙ by_spare.1
+
+      same_number : number_in spare ≡ (block_at s im b).number
+      same_number = sym (ap number_of same) ∙ used.filled.number i k
 
       same_address : address_of (pages_of s im b i) ≡ address_in spare
-      same_address = ap address_of (sym by_record ∙ by_spare.1)
+      same_address = ap address_of same
 
       pub used_entry : EntryAt s im (block_at s im b) (page_no s b i) i
       unfolding spare
       used_entry =
           record {
             table = by_spare.0;
-            entry = by_record ∙ ap (Entry (block_at s im b).number (block_at s im b).kind) same_address;
-            number = ap number_of (sym by_spare.1 ∙ by_record);
-            kind = ap kind_of (sym by_spare.1 ∙ by_record);
+            entry = by_spare.1 ∙ ap (λ (n : ℕ). Entry n (kind_for (kind_in spare)) (address_in spare)) same_number;
+            number = same_number;
+            kind = sym (used.filled.kind i k) ∙ ap kind_of same;
             in_range = subst (λ (a : ℕ). T (in_range s a)) same_address (used.filled.in_range i k);
             block = subst (λ (a : ℕ). block_of s a ≡ (block_at s im b).logical) same_address (used.filled.block i k);
             offset = λ c. subst (λ (a : ℕ). offset_of s a ≡ i) same_address (used.filled.offset c i k);

@@ -46,21 +46,18 @@ all255_turn xs i h e f =
     let one : all255 (part xs i 1) ≡ eqb (byte xs i) 255 = rw (drop-cons xs i 0) (and-true (eqb (byte xs i) 255)) in
     f ∙ ap (λ (b : Bool). b && eqb (byte xs i) 255) e ∙ ap (λ (b : Bool). all255 (take i xs) && b) (sym one) ∙ sym (all255_more xs i 1)
 
--- group k of n bytes at a time, lent as &xs[at..at + n]; r says whether it is all 255
-module _ (xs : List ℕ) (n k : ℕ) {r : Bool} (told : r ≡ all255 (take ((k * n + n) - k * n) (drop (k * n) xs))) where
-  group : r ≡ all255 (part xs (k * n) n)
-  group = told ∙ ap all255 (part_lent xs (k * n) n)
-
+-- group k of n bytes; r says whether it is all 255
+module _ (xs : List ℕ) (n k : ℕ) {r : Bool} (told : r ≡ all255 (part xs (k * n) n)) where
   pub group_next : true ≡ all255 (take (k * n) xs) → r ≡ true → true ≡ all255 (take ((k + 1) * n) xs)
   group_next before here =
       let next : (k + 1) * n ≡ k * n + n = add-mul k 1 n ∙ ap (λ (m : ℕ). k * n + m) (one-mul n) in
-      rw (next, all255_more xs (k * n) n, ← before, ← group, here) refl
+      rw (next, all255_more xs (k * n) n, ← before, ← told, here) refl
 
   pub group_differs : r ≡ false → false ≡ all255 xs
   group_differs here =
       let m : ℕ = k * n + n in
       let first : all255 (take m xs) ≡ false =
-      all255_more xs (k * n) n ∙ ap (λ (b : Bool). all255 (take (k * n) xs) && b) (sym group ∙ here) ∙ and-false (all255 (take (k * n) xs)) in
+      all255_more xs (k * n) n ∙ ap (λ (b : Bool). all255 (take (k * n) xs) && b) (sym told ∙ here) ∙ and-false (all255 (take (k * n) xs)) in
       sym (ap all255 (sym (take-append-drop m xs)) ∙ all255-append (take m xs) (drop m xs) ∙ ap (λ (b : Bool). b && all255 (drop m xs)) first)
 
 pub all255_at : (xs : List ℕ) (i : ℕ) → T (all255 xs) → i < length xs → byte xs i ≡ 255

@@ -10,7 +10,7 @@ use Rattle.rules.specs.declared.shape.Shape.{Shape}
 use Rattle.rules.specs.declared.block.State.TheVariants.{Free}
 use Rattle.rules.specs.declared.block.Block.{Block}
 use Rattle.rules.specs.Below.{none}
-use Rattle.rules.specs.Spare.{log_kind}
+use Rattle.rules.specs.Page.{is_log}
 use Rattle.rules.specs.WellFormed.{Blocks, not_used, is_good, is_free, is_ill, is_used, is_complete, data_number, is_data, is_live, is_obsolete, data_block, live_log, live_logs}
 use Rattle.rules.specs.Replies.{good_blocks}
 use Rattle.laws.proofs.Tests.{cond_yes, cond_no, dec_eq, lt_or_le, eq→eqb, ne→eqb}
@@ -217,11 +217,11 @@ module _ (s : Shape) (c : Blocks) (b : ℕ) (x : Block) where
     unfolding is_obsolete is_data is_live
     obsolete_other =
         other (λ d y. is_used y.state && not (is_complete s y && eqb y.number d)
-        && not (is_used y.state && eqb y.kind log_kind && not (is_complete s y) && ltb d y.number))
+        && not (is_used y.state && is_log y.kind && not (is_complete s y) && ltb d y.number))
 
     pub live_other : is_live s (changed c b x) j ≡ is_live s c j
     unfolding is_live
-    live_other = other (λ d y. is_used y.state && eqb y.kind log_kind && not (is_complete s y) && ltb d y.number)
+    live_other = other (λ d y. is_used y.state && is_log y.kind && not (is_complete s y) && ltb d y.number)
 
 -- a used block with a number below the data block's is obsolete
 pub below_obsolete : (s : Shape) (c : Blocks) (j : ℕ) → T (is_used (c j).state) → (c j).number < data_number s c (c j).logical → T (is_obsolete s c j)
@@ -233,7 +233,7 @@ below_obsolete s c j t h =
 -- neither a complete block nor a log block
 pub record Idle (s : Shape) (x : Block) : Type 0 where
   pub incomplete : T (is_complete s x) → ⊥
-  pub no_log : T (is_used x.state) → x.kind ≢ log_kind
+  pub no_log : T (is_used x.state) → T (is_log x.kind) → ⊥
 
 -- each live log block of c' is one of c, as it stands
 abbrev pub LiveIs : Shape → Blocks → Blocks → Type 0
@@ -340,7 +340,7 @@ pub record LogGrown (s : Shape) (c : Blocks) (b : ℕ) (x : Block) : Type 0 wher
   pub no_live : (l : ℕ) → l ≢ x.logical → NoLive s c l → NoLive s (changed c b x) l
 
 module _ (s : Shape) (c : Blocks) (b : ℕ) (x : Block) (w : WellFormed s c) (p : Fitting s c b x) (u : T (is_used x.state))
-    (kind : x.kind ≡ log_kind)
+    (kind : T (is_log x.kind))
     (open' : T (is_complete s x) → ⊥) (nd : T (is_data s c b) → ⊥) (above : data_number s c x.logical < x.number) where
   abbrev k' : Blocks
   k' = changed c b x

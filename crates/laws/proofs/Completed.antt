@@ -8,6 +8,7 @@ use lib.Dec.{T}
 use lib.ListN.{length}
 use borrow.Author.Tests.{ne_eqb}
 use Rattle.rules.specs.declared.shape.Shape.{Shape}
+use Rattle.rules.specs.declared.kind.Kind.{Kind}
 use Rattle.rules.specs.declared.block.Block.{Block}
 use Rattle.rules.specs.Page.{Image}
 use Rattle.rules.specs.WellFormed.{is_complete, block_at, blocks_of}
@@ -20,7 +21,7 @@ use Rattle.laws.proofs.Blocks.{one_more, Writable, Joins}
 use Rattle.laws.proofs.Change.{changed_same}
 use Rattle.laws.proofs.Steps.{next_step, program_done, good_in}
 
-module _ (s : Shape) (x : Block) (n k a : ℕ) where
+module _ (s : Shape) (x : Block) (n : ℕ) (k : Kind) (a : ℕ) where
   -- of a block with a page or more
   one_more_completes : 0 < x.filled → is_complete s (one_more s x n k a) ≡ completes s x a
   unfolding is_complete
@@ -30,7 +31,7 @@ module _ (s : Shape) (x : Block) (n k a : ℕ) where
   one_more_first : x.filled ≡ 0 → 2 ≤ s.pages → T (is_complete s (one_more s x n k a)) → ⊥
   one_more_first z h t = omega (arith, (complete_e s (one_more s x n k a) t).full)
 
-module _ (s : Shape) (im : Image) (w : Fits s im) (b n k a : ℕ) (d : List ℕ) (e : Writable n k a) (j : Joins s (blocks_of s im b) n k a)
+module _ (s : Shape) (im : Image) (w : Fits s im) (b n : ℕ) (k : Kind) (a : ℕ) (d : List ℕ) (e : Writable n a) (j : Joins s (blocks_of s im b) n k a)
     (long : length d ≡ 512) where
   left : block_at s (step_done s (next_step s im b n k a d) im) b ≡ one_more s (blocks_of s im b) n k a
   left =

@@ -8,9 +8,8 @@ use native.Mathlib.Omega.{arith}
 use lib.ListN.{length, replicate, length-replicate}
 use lib.Dec.{T_not, eqb}
 use borrow.Author.Tests.{eq-eqb, ne_eqb}
+use Rattle.std.specs.Prelude.{Option, Some, None}
 use Rattle.rules.specs.declared.shape.Shape.{Shape}
-use Rattle.rules.specs.declared.place.Place.{Place}
-use Rattle.rules.specs.declared.place.Place.TheVariants.{At, Nowhere}
 use Rattle.rules.specs.Below.{none, is_none}
 use Rattle.rules.specs.Spare.{address_in}
 use Rattle.rules.specs.Shape.{page_no, block_of, offset_of}
@@ -31,13 +30,13 @@ offset_at s im b i = offset_of s (address_in (page_spare im (page_no s b i)))
 -- ---- the newest copy among the first n pages of a block
 
 -- what it can be
-data Among (s : Shape) (b n : ℕ) : Place → Type 0 where
-  among_at : (i : ℕ) → i < n → Among s b n (At (page_no s b i))
-  among_none : Among s b n Nowhere
+data Among (s : Shape) (b n : ℕ) : Option ℕ → Type 0 where
+  among_at : (i : ℕ) → i < n → Among s b n (Some (page_no s b i))
+  among_none : Among s b n None
 
-among_more : (s : Shape) (b n : ℕ) (p : Place) → Among s b n p → Among s b (suc n) p
-among_more s b n (At p) (among_at i h) = among_at i (omega arith)
-among_more s b n Nowhere among_none = among_none
+among_more : (s : Shape) (b n : ℕ) (p : Option ℕ) → Among s b n p → Among s b (suc n) p
+among_more s b n (Some p) (among_at i h) = among_at i (omega arith)
+among_more s b n None among_none = among_none
 
 newest_among : (s : Shape) (im : Image) (b o n : ℕ) → Among s b n (newest s im b o n)
 unfolding newest
@@ -49,7 +48,7 @@ newest_among s im b o (suc n) =
           (among_more s b n (newest s im b o n) (newest_among s im b o n))
     ]
 
-newest-zero : (s : Shape) (im : Image) (b o : ℕ) → newest s im b o 0 ≡ Nowhere
+newest-zero : (s : Shape) (im : Image) (b o : ℕ) → newest s im b o 0 ≡ None
 unfolding newest
 newest-zero s im b o = refl
 
@@ -60,12 +59,12 @@ newest-same s im im' b o (suc n) h =
     rw ((h n (omega arith)).1, newest-same s im im' b o n (λ i k. h i (omega arith))) refl
 
 newest_next : (s : Shape) (im : Image) (b o n : ℕ)
-    → newest s im b o (suc n) ≡ cond (eqb (offset_at s im b n) o) (At (page_no s b n)) (newest s im b o n)
+    → newest s im b o (suc n) ≡ cond (eqb (offset_at s im b n) o) (Some (page_no s b n)) (newest s im b o n)
 unfolding newest
 newest_next s im b o n = refl
 
 -- where page i has offset i, it is page o
-newest_ordered : (s : Shape) (im : Image) (b o n : ℕ) → ((i : ℕ) → i < n → offset_at s im b i ≡ i) → o < n → newest s im b o n ≡ At (page_no s b o)
+newest_ordered : (s : Shape) (im : Image) (b o n : ℕ) → ((i : ℕ) → i < n → offset_at s im b i ≡ i) → o < n → newest s im b o n ≡ Some (page_no s b o)
 unfolding newest
 newest_ordered s im b o zero f h = absurd (omega arith)
 newest_ordered s im b o (suc n) f h =
@@ -82,13 +81,13 @@ module _ (s : Shape) (c : Blocks) (a : ℕ) where
   abbrev own : ℕ
   own = data_block s c (block_of s a)
 
-  in_data_none : own ≡ none → in_data s c a ≡ Nowhere
+  in_data_none : own ≡ none → in_data s c a ≡ None
   unfolding in_data
-  in_data_none e = cond_yes (is_none own) Nowhere (At (page_no s own (offset_of s a))) (eq→eqb own none e)
+  in_data_none e = cond_yes (is_none own) None (Some (page_no s own (offset_of s a))) (eq→eqb own none e)
 
-  in_data_some : own ≢ none → in_data s c a ≡ At (page_no s own (offset_of s a))
+  in_data_some : own ≢ none → in_data s c a ≡ Some (page_no s own (offset_of s a))
   unfolding in_data
-  in_data_some n = cond_no (is_none own) Nowhere (At (page_no s own (offset_of s a))) (ne→eqb own none n)
+  in_data_some n = cond_no (is_none own) None (Some (page_no s own (offset_of s a))) (ne→eqb own none n)
 
 -- ---- the content
 
@@ -112,7 +111,7 @@ module _ (s : Shape) (a : ℕ) (low : offset_of s a < s.pages) where
       → bytes_at im' (in_data s c' a) ≡ bytes_at im (in_data s c a)
   unfolding in_data
   data_bytes im im' c c' e same =
-      ap (λ (d : ℕ). bytes_at im' (cond (is_none d) Nowhere (At (page_no s d o)))) e
+      ap (λ (d : ℕ). bytes_at im' (cond (is_none d) None (Some (page_no s d o)))) e
       ∙ elim (dec_eq (data_block s c l) none) [
         | inl q ↦ rw (is_true (is_none (data_block s c l)) (eq→eqb (data_block s c l) none q)) refl
         | inr q ↦ rw (is_false (is_none (data_block s c l)) (ne→eqb (data_block s c l) none q)) (same q o low).0
@@ -121,12 +120,12 @@ module _ (s : Shape) (a : ℕ) (low : offset_of s a < s.pages) where
   from_same : (im im' : Image) (c c' : Blocks) (b n : ℕ) → SamePages s im im' b n → data_block s c' l ≡ data_block s c l
       → (data_block s c l ≢ none → SamePages s im im' (data_block s c l) s.pages) → from im' c' b n ≡ from im c b n
   from_same im im' c c' b n same e d =
-      ap (λ (p : Place). bytes_at im' (or_else p (in_data s c' a))) (newest-same s im im' b o n same)
+      ap (λ (p : Option ℕ). bytes_at im' (or_else p (in_data s c' a))) (newest-same s im im' b o n same)
       ∙ go (newest s im b o n) (newest_among s im b o n)
     where
-      go : (p : Place) → Among s b n p → bytes_at im' (or_else p (in_data s c' a)) ≡ bytes_at im (or_else p (in_data s c a))
-      go (At p) (among_at i h) = (same i h).0
-      go Nowhere among_none = data_bytes im im' c c' e d
+      go : (p : Option ℕ) → Among s b n p → bytes_at im' (or_else p (in_data s c' a)) ≡ bytes_at im (or_else p (in_data s c a))
+      go (Some p) (among_at i h) = (same i h).0
+      go None among_none = data_bytes im im' c c' e d
 
   -- the blocks of l and their pages stay
   pub content_same : (im im' : Image) (c c' : Blocks) (b n : ℕ) → live_log s c l ≡ b → live_log s c' l ≡ b → (c b).filled ≡ n → (c' b).filled ≡ n
@@ -179,7 +178,7 @@ module _ (s : Shape) (a : ℕ) (low : offset_of s a < s.pages) where
           | inr q ↦
               rw (ne_eqb (offset_at s im' b n) o (λ y. q (sym (order n (omega arith)) ∙ y)))
               ((same o (omega arith)).0 ∙ sym (content-old
-              ∙ ap (λ (p : Place). bytes_at im (or_else p (in_data s c a))) (newest_ordered s im b o n old (omega arith))))
+              ∙ ap (λ (p : Option ℕ). bytes_at im (or_else p (in_data s c a))) (newest_ordered s im b o n old (omega arith))))
         ]
       where
         old : (i : ℕ) → i < n → offset_at s im b i ≡ i
@@ -195,9 +194,9 @@ module _ (s : Shape) (a : ℕ) (low : offset_of s a < s.pages) where
       ap length (content_from im c) ∙ go (newest s im (live_log s c l) o (c (live_log s c l)).filled)
       (newest_among s im (live_log s c l) o (c (live_log s c l)).filled)
     where
-      go : (p : Place) → Among s (live_log s c l) (c (live_log s c l)).filled p → length (bytes_at im (or_else p (in_data s c a))) ≡ 512
-      go (At p) (among_at i h) = f i h
-      go Nowhere among_none =
+      go : (p : Option ℕ) → Among s (live_log s c l) (c (live_log s c l)).filled p → length (bytes_at im (or_else p (in_data s c a))) ≡ 512
+      go (Some p) (among_at i h) = f i h
+      go None among_none =
           elim (dec_eq (data_block s c l) none) [
             | inl q ↦ rw (in_data_none s c a q) (length-replicate {A = ℕ} 512 255)
             | inr q ↦ rw (in_data_some s c a q) (g q)

@@ -8,7 +8,9 @@ use native.Mathlib.Omega.{arith}
 use native.Mathlib.Nat.{le_refl}
 use lib.ListN.{length}
 use lib.Dec.{T}
+use Rattle.std.specs.Prelude.{Some, None}
 use Rattle.rules.specs.declared.shape.Shape.{Shape}
+use Rattle.rules.specs.declared.kind.Kind.TheVariants.{Copy}
 use Rattle.rules.specs.declared.block.State.TheVariants.{Free}
 use Rattle.rules.specs.declared.block.Block.{Block}
 use Rattle.rules.specs.Below.{list_below}
@@ -44,13 +46,13 @@ module _ (s : Shape) (fb n l : ℕ) (page : ℕ → List ℕ) where
   -- the record of fb then
   abbrev pub copy_record : ℕ → Block
   copy_record zero = not_used Free
-  copy_record (suc m) = used_with n copy_kind l (suc m) true
+  copy_record (suc m) = used_with n (Some Copy) l (suc m) true
 
   pub copy_record_filled : (m : ℕ) → (copy_record m).filled ≡ m
   copy_record_filled zero = refl
   copy_record_filled (suc m) = refl
 
-  pub copy_record_some : (m : ℕ) → 0 < m → copy_record m ≡ used_with n copy_kind l m true
+  pub copy_record_some : (m : ℕ) → 0 < m → copy_record m ≡ used_with n (Some Copy) l m true
   copy_record_some zero h = absurd (omega arith)
   copy_record_some (suc m) h = refl
 
@@ -88,7 +90,7 @@ module _ (s : Shape) (fb n l : ℕ) (page : ℕ → List ℕ) where
 
     record_at : (m : ℕ) → m ≤ s.pages → block_at s (copied m im) fb ≡ copy_record m
     unfolding steps_done list_below
-    record_at zero h = blank_block_at s im fb (free_block_filled s im fb free_read 0 0 0)
+    record_at zero h = blank_block_at s im fb (free_block_filled s im fb free_read 0 None 0)
     record_at (suc m) h = copies-block_at s im w fb below free_read low high hl few page long (suc m) (omega arith) h
 
     pub copies_is : (m : ℕ) → m ≤ s.pages → Copies im m

@@ -7,33 +7,41 @@ use Prim.Native.Nat.{ℕ, ◌+◌, ◌≤◌, ◌<◌}
 use native.Mathlib.Numerals.{add-one}
 use native.Mathlib.Omega.{arith}
 use lib.Dec.{T, eqb, T_not, not_T, eqb→eq}
+use Rattle.std.specs.Prelude.{Option, Some}
 use Rattle.rules.specs.declared.shape.Shape.{Shape}
+use Rattle.rules.specs.declared.kind.Kind.{Kind}
 use Rattle.rules.specs.declared.page.Page.{Page}
-use Rattle.rules.specs.declared.page.Page.TheVariants.{Erased, Entry}
+use Rattle.rules.specs.declared.page.Page.TheVariants.{Erased, Entry, Junk}
 use Rattle.rules.specs.declared.block.State.TheVariants.{Free, Used}
 use Rattle.rules.specs.declared.block.Block.{Block}
 use Rattle.rules.specs.Below.{all_below}
-use Rattle.rules.specs.Spare.{copy_kind}
 use Rattle.rules.specs.Shape.{block_of, offset_of, in_range}
-use Rattle.rules.specs.Page.{is_erased, is_entry, number_of, kind_of, address_of}
+use Rattle.rules.specs.Page.{is_erased, is_entry, number_of, kind_of, address_of, is_copy, same_kind}
 use Rattle.rules.specs.WellFormed.{naming, Pages, W1, W2, W3, W4, W1to4, not_used, all_erased, filled_in, in_order, good_block, is_used, is_free}
 use Rattle.laws.proofs.Tests.{tcase, and_l, and_r, and_i, or_l, or_r, or_e, cond_yes, cond_no, dec_eq, lt_or_le, eq→eqb, chain_each, each_chain}
 use Rattle.laws.proofs.Below.{all_below_at, all_below_all, all_below-same, count_below-most, Before, count_below_first, count_below_prefix}
-use Rattle.laws.proofs.Pages.{is_erased_is, is_entry_is}
+use Rattle.laws.proofs.Pages.{is_erased_is, same_kind_is, is_same_kind}
 use Rattle.laws.proofs.Records.{good_block_cases, rules_e, W1_before, first_programmed}
 
 -- pages 0 to m - 1 have number n, kind k and addresses in logical block l, as W1 to W4 say; the others are erased
-pub record Filled (s : Shape) (g : Pages) (n k l m : ℕ) : Type 0 where
+pub record Filled (s : Shape) (g : Pages) (n : ℕ) (k : Option Kind) (l m : ℕ) : Type 0 where
   pub most : m ≤ s.pages
-  pub entry : (i : ℕ) → i < m → g i ≡ Entry n k (address_of (g i))
+  pub entry : (i : ℕ) → i < m → T (is_entry (g i))
+  pub number : (i : ℕ) → i < m → number_of (g i) ≡ n
+  pub kind : (i : ℕ) → i < m → kind_of (g i) ≡ k
   pub in_range : (i : ℕ) → i < m → T (in_range s (address_of (g i)))
   pub block : (i : ℕ) → i < m → block_of s (address_of (g i)) ≡ l
-  pub offset : k ≡ copy_kind → (i : ℕ) → i < m → offset_of s (address_of (g i)) ≡ i
+  pub offset : T (is_copy k) → (i : ℕ) → i < m → offset_of s (address_of (g i)) ≡ i
   pub blank : (i : ℕ) → m ≤ i → i < s.pages → g i ≡ Erased
 
 -- ---- from the pages to the record
 
-abbrev pub used_with : ℕ → ℕ → ℕ → ℕ → Bool → Block
+entry_not_erased : (q : Page) → T (is_entry q) → T (is_erased q) → ⊥
+entry_not_erased Erased t u = t
+entry_not_erased (Entry n k a) t u = u
+entry_not_erased Junk t u = t
+
+abbrev pub used_with : ℕ → Option Kind → ℕ → ℕ → Bool → Block
 used_with n k l m o = record { state = Used; kind = k; number = n; logical = l; filled = m; ordered = o }
 
 module _ (s : Shape) (g : Pages) where
@@ -45,9 +53,9 @@ module _ (s : Shape) (g : Pages) where
   free_good_block f =
       cond_yes (all_erased s g) _ _ (all_below_all s.pages (λ i. is_erased (g i)) (λ i h. subst (λ (q : Page). T (is_erased q)) (sym (f i h)) tt))
 
-  module _ {n k l m : ℕ} (f : Filled s g n k l m) where
+  module _ {n : ℕ} {k : Option Kind} {l m : ℕ} (f : Filled s g n k l m) where
     programmed : (i : ℕ) → i < m → T (is_erased (g i)) → ⊥
-    programmed i h t = subst (λ (q : Page). T (is_erased q)) (f.entry i h) t
+    programmed i h t = entry_not_erased (g i) (f.entry i h) t
 
     erased_past : (i : ℕ) → m ≤ i → i < s.pages → T (is_erased (g i))
     erased_past i h k = subst (λ (q : Page). T (is_erased q)) (sym (f.blank i h k)) tt
@@ -60,12 +68,6 @@ module _ (s : Shape) (g : Pages) where
           | inr a ↦ or_l (is_erased (g i)) (rest i) (erased_past i a h)
         ]
 
-    same_kind : (i : ℕ) → i < m → kind_of (g i) ≡ k
-    same_kind i h = ap kind_of (f.entry i h)
-
-    same_number : (i : ℕ) → i < m → number_of (g i) ≡ n
-    same_number i h = ap number_of (f.entry i h)
-
     filled-W1 : T (all W1)
     unfolding W1
     filled-W1 =
@@ -77,10 +79,10 @@ module _ (s : Shape) (g : Pages) where
     unfolding W2
     filled-W2 =
         all_below_all s.pages (W2 s g)
-        (rule_i (λ i. is_entry (g i) && eqb (kind_of (g i)) (kind_of (naming g)) && eqb (number_of (g i)) (number_of (naming g)))
-        (λ i h. each_chain (is_entry (g i)) (eqb (kind_of (g i)) (kind_of (naming g)) ∷ eqb (number_of (g i)) (number_of (naming g)) ∷ [])
-        (subst (λ (q : Page). T (is_entry q)) (sym (f.entry i h)) tt)
-        (eq→eqb _ _ (same_kind i h ∙ sym (same_kind 0 (omega arith))), (eq→eqb _ _ (same_number i h ∙ sym (same_number 0 (omega arith))), tt))))
+        (rule_i (λ i. is_entry (g i) && same_kind (kind_of (g i)) (kind_of (naming g)) && eqb (number_of (g i)) (number_of (naming g)))
+        (λ i h. each_chain (is_entry (g i)) (same_kind (kind_of (g i)) (kind_of (naming g)) ∷ eqb (number_of (g i)) (number_of (naming g)) ∷ [])
+        (f.entry i h)
+        (is_same_kind _ _ (f.kind i h ∙ sym (f.kind 0 (omega arith))), (eq→eqb _ _ (f.number i h ∙ sym (f.number 0 (omega arith))), tt))))
 
     filled-W3 : T (all W3)
     unfolding W3
@@ -97,15 +99,15 @@ module _ (s : Shape) (g : Pages) where
         (λ i h. subst T (sym (or_assoc (is_erased (g i)) no_copy (in_place i))) (rule_i (λ j. no_copy || in_place j) pass i h))
       where
         no_copy : Bool
-        no_copy = not (eqb (kind_of (naming g)) copy_kind)
+        no_copy = not (is_copy (kind_of (naming g)))
 
         in_place : ℕ → Bool
         in_place i = eqb (offset_of s (address_of (g i))) i
 
         pass : (i : ℕ) → i < m → T (no_copy || in_place i)
         pass i h =
-            elim (tcase (eqb (kind_of (naming g)) copy_kind)) [
-              | inl t ↦ or_r no_copy (in_place i) (eq→eqb _ _ (f.offset (sym (same_kind 0 (omega arith)) ∙ eqb→eq (kind_of (naming g)) copy_kind t) i h))
+            elim (tcase (is_copy (kind_of (naming g)))) [
+              | inl t ↦ or_r no_copy (in_place i) (eq→eqb _ _ (f.offset (subst (λ (x : Option Kind). T (is_copy x)) (f.kind 0 (omega arith)) t) i h))
               | inr t ↦ or_l no_copy (in_place i) t
             ]
 
@@ -117,8 +119,8 @@ module _ (s : Shape) (g : Pages) where
     pub filled_good_block : 0 < m → good_block s g ≡ used_with n k l m (in_order s g m)
     unfolding good_block W1to4
     filled_good_block h =
-        let kind : kind_of (naming g) ≡ k = same_kind 0 h in
-        let number : number_of (naming g) ≡ n = same_number 0 h in
+        let kind : kind_of (naming g) ≡ k = f.kind 0 h in
+        let number : number_of (naming g) ≡ n = f.number 0 h in
         let block : block_of s (address_of (naming g)) ≡ l = f.block 0 h in
         let count : filled_in s g ≡ m = filled_count in
         let order : in_order s g (filled_in s g) ≡ in_order s g m = ap (in_order s g) count in
@@ -160,12 +162,12 @@ module _ (s : Shape) (g : Pages) where
     W2_at : (i : ℕ) → i < filled_in s g → T (is_entry (g i)) × (kind_of (g i) ≡ kind_of (naming g)) × (number_of (g i) ≡ number_of (naming g))
     unfolding W2
     W2_at i h =
-        let same_kind : Bool = eqb (kind_of (g i)) (kind_of (naming g)) in
+        let one_kind : Bool = same_kind (kind_of (g i)) (kind_of (naming g)) in
         let same_number : Bool = eqb (number_of (g i)) (number_of (naming g)) in
         let t = all_below_at s.pages (W2 s g) (rules_e s g rules).1 i (omega (arith, most)) in
-        let a = rule_e (is_entry (g i) && same_kind && same_number) i h t in
-        let e = chain_each (is_entry (g i)) (same_kind ∷ same_number ∷ []) a in
-        (e.0, eqb→eq _ _ e.1.0, eqb→eq _ _ e.1.1.0)
+        let a = rule_e (is_entry (g i) && one_kind && same_number) i h t in
+        let e = chain_each (is_entry (g i)) (one_kind ∷ same_number ∷ []) a in
+        (e.0, same_kind_is _ _ e.1.0, eqb→eq _ _ e.1.1.0)
 
     W3_at : (i : ℕ) → i < filled_in s g → T (in_range s (address_of (g i))) × (block_of s (address_of (g i)) ≡ block_of s (address_of (naming g)))
     unfolding W3
@@ -176,21 +178,22 @@ module _ (s : Shape) (g : Pages) where
         let a = rule_e (range && same_block) i h t in
         (and_l range same_block a, eqb→eq _ _ (and_r range same_block a))
 
-    W4_at : kind_of (naming g) ≡ copy_kind → (i : ℕ) → i < filled_in s g → offset_of s (address_of (g i)) ≡ i
+    W4_at : T (is_copy (kind_of (naming g))) → (i : ℕ) → i < filled_in s g → offset_of s (address_of (g i)) ≡ i
     unfolding W4
     W4_at copy i h =
-        let no_copy : Bool = not (eqb (kind_of (naming g)) copy_kind) in
+        let no_copy : Bool = not (is_copy (kind_of (naming g))) in
         let in_place : Bool = eqb (offset_of s (address_of (g i))) i in
         let t = all_below_at s.pages (W4 s g) (rules_e s g rules).3 i (omega (arith, most)) in
         let a = rule_e (no_copy || in_place) i h (subst T (or_assoc (is_erased (g i)) no_copy in_place) t) in
-        elim (or_e no_copy in_place a) [ inl u ↦ absurd (T_not (eqb (kind_of (naming g)) copy_kind) u (eq→eqb _ _ copy)) | inr u ↦ eqb→eq _ _ u ]
+        elim (or_e no_copy in_place a) [ inl u ↦ absurd (T_not (is_copy (kind_of (naming g))) u copy) | inr u ↦ eqb→eq _ _ u ]
 
     used_filled : Filled s g (number_of (naming g)) (kind_of (naming g)) (block_of s (address_of (naming g))) (filled_in s g)
     used_filled =
         record {
           most = most;
-          entry = λ i h. let e = W2_at i h in is_entry_is (g i) e.0 ∙ ap (λ (k : ℕ). Entry (number_of (g i)) k (address_of (g i))) e.1
-              ∙ ap (λ (n : ℕ). Entry n (kind_of (naming g)) (address_of (g i))) e.2;
+          entry = λ i h. (W2_at i h).0;
+          number = λ i h. (W2_at i h).2;
+          kind = λ i h. (W2_at i h).1;
           in_range = λ i h. (W3_at i h).0;
           block = λ i h. (W3_at i h).1;
           offset = W4_at;
@@ -208,18 +211,19 @@ module _ (s : Shape) (g : Pages) where
 -- ---- one more page
 
 -- the next page of such a block may have logical page a
-pub record NextPage (s : Shape) (k l m a : ℕ) : Type 0 where
+pub record NextPage (s : Shape) (k : Kind) (l m a : ℕ) : Type 0 where
   pub room : m < s.pages
   pub in_range : T (in_range s a)
   pub block : block_of s a ≡ l
-  pub offset : k ≡ copy_kind → offset_of s a ≡ m
+  pub offset : T (is_copy (Some k)) → offset_of s a ≡ m
 
 -- the pages g' are the pages g, and page m
 pub record PageAdded (s : Shape) (g g' : Pages) (m : ℕ) (q : Page) : Type 0 where
   pub here : g' m ≡ q
   pub others : (i : ℕ) → i < s.pages → i ≢ m → g' i ≡ g i
 
-module _ (s : Shape) (g g' : Pages) {n k l m a : ℕ} (f : Filled s g n k l m) (x : NextPage s k l m a) (p : PageAdded s g g' m (Entry n k a)) where
+module _ (s : Shape) (g g' : Pages) {n : ℕ} {k : Kind} {l m a : ℕ} (f : Filled s g n (Some k) l m) (x : NextPage s k l m a)
+    (p : PageAdded s g g' m (Entry n k a)) where
   -- what holds of page m and of the pages before it holds of the first m + 1
   up_to : (Q : ℕ → Page → Type 0) → Q m (Entry n k a) → ((i : ℕ) → i < m → Q i (g i)) → (i : ℕ) → i < m + 1 → Q i (g' i)
   up_to Q new old i h =
@@ -228,11 +232,13 @@ module _ (s : Shape) (g g' : Pages) {n k l m a : ℕ} (f : Filled s g n k l m) (
         | inr e ↦ subst (Q i) (sym (p.others i (omega (arith, x.room)) e)) (old i (omega arith))
       ]
 
-  pub filled_more : Filled s g' n k l (m + 1)
+  pub filled_more : Filled s g' n (Some k) l (m + 1)
   filled_more =
       record {
         most = omega (arith, x.room);
-        entry = up_to (λ i q. q ≡ Entry n k (address_of q)) refl f.entry;
+        entry = up_to (λ i q. T (is_entry q)) tt f.entry;
+        number = up_to (λ i q. number_of q ≡ n) refl f.number;
+        kind = up_to (λ i q. kind_of q ≡ Some k) refl f.kind;
         in_range = up_to (λ i q. T (in_range s (address_of q))) x.in_range f.in_range;
         block = up_to (λ i q. block_of s (address_of q) ≡ l) x.block f.block;
         offset = λ c. up_to (λ i q. offset_of s (address_of q) ≡ i) (x.offset c) (f.offset c);

@@ -8,11 +8,13 @@ use native.Mathlib.Omega.{arith}
 use native.Mathlib.Nat.{le_refl}
 use lib.Dec.{T}
 use borrow.Author.Tests.{eq-eqb, ne_eqb}
+use Rattle.std.specs.Prelude.{Some, None}
 use Rattle.rules.specs.declared.shape.Shape.{Shape}
+use Rattle.rules.specs.declared.kind.Kind.TheVariants.{Copy}
 use Rattle.rules.specs.declared.block.State.TheVariants.{Free}
 use Rattle.rules.specs.declared.block.Block.{Block}
 use Rattle.rules.specs.Below.{none, if_any, first_below, list_below}
-use Rattle.rules.specs.Spare.{number_limit, copy_kind}
+use Rattle.rules.specs.Spare.{number_limit}
 use Rattle.rules.specs.Shape.{block_of}
 use Rattle.rules.specs.Page.{Image}
 use Rattle.rules.specs.WellFormed.{Blocks, not_used, is_free, is_used, data_block, live_log, block_at, blocks_of}
@@ -38,7 +40,7 @@ use Rattle.laws.proofs.Merge.{merge_made, merge_end}
 -- a block of an image that is free has the record of a free block
 pub free_record : (s : Shape) (im : Image) (j : ℕ) → j < s.blocks → T (is_free (blocks_of s im j).state) → blocks_of s im j ≡ not_used Free
 free_record s im j h t =
-    blocks_of_at s im j h ∙ blank_block_at s im j (free_block_filled s im j (subst (λ (x : Block). T (is_free x.state)) (blocks_of_at s im j h) t) 0 0 0)
+    blocks_of_at s im j h ∙ blank_block_at s im j (free_block_filled s im j (subst (λ (x : Block). T (is_free x.state)) (blocks_of_at s im j h) t) 0 None 0)
 
 module _ (s : Shape) (im : Image) (w : Sound s im) (rec : Recovered s (blocks_of s im)) (l : ℕ) (hl : l < s.logical)
     (fit : new_number s (blocks_of s im) ≤ number_limit) where
@@ -149,7 +151,7 @@ module _ (s : Shape) (im : Image) (w : Sound s im) (rec : Recovered s (blocks_of
       ∙ sym (blocks_of_at s (moment s.pages) j h) ∙ ap (λ (k : Blocks). k j) copied_all.blocks
 
   -- the block taken holds the copy
-  merged_copy : blocks_of s merged f ≡ used_with (new_number s c) copy_kind l s.pages true
+  merged_copy : blocks_of s merged f ≡ used_with (new_number s c) (Some Copy) l s.pages true
   merged_copy =
       merged_kept f f_below (λ e. not_it e (log_used l)) (λ e. not_it e (data_in l)) ∙ changed_same c f copy
       ∙ copy_record_some s f (new_number s c) l own s.pages (omega (arith, w.fits.limits.pages_low))

@@ -3,25 +3,28 @@ use mathlib.Core.Path.{◌≡◌, refl, sym, ap, ◌∙◌, subst}
 use mathlib.Core.Bool.{Bool, true, false, cond}
 use mathlib.Core.Logic.{◌≢◌, ◌⊎◌, inl, inr, ⊎_elim}
 use mathlib.Core.List.{List, [], ◌∷◌, ◌++◌}
-use Prim.Native.Nat.{ℕ, ◌+◌, ◌-◌, ◌*◌, ◌/◌, ◌≤◌, ◌<◌}
+use Prim.Native.Nat.{ℕ, ◌+◌, ◌*◌, ◌/◌, ◌≤◌, ◌<◌}
 use native.Mathlib.Nat.{add-mul, mul-le-mul_right}
 use native.Mathlib.Omega.{arith}
 use lib.Dec.{T, T_not}
-use lib.ListN.{length, take, drop, replicate, length-replicate}
+use lib.ListN.{length, replicate, length-replicate}
+use Rattle.std.specs.Prelude.{Option, Some, None}
 use Rattle.rules.specs.declared.shape.Shape.{Shape}
+use Rattle.rules.specs.declared.kind.Kind.{Kind}
+use Rattle.rules.specs.declared.kind.Kind.TheVariants.{Log, Copy}
 use Rattle.rules.specs.declared.page.Page.{Page}
 use Rattle.rules.specs.declared.page.Page.TheVariants.{Erased, Entry, Junk}
 use Rattle.rules.specs.Bytes.{all255, part, replaced}
-use Rattle.rules.specs.Spare.{number_limit, number_in, kind_in, address_in, in_table, spare_bytes}
+use Rattle.rules.specs.Spare.{number_limit, kind_byte, kind_for, number_in, kind_in, address_in, in_table, spare_bytes}
 use Rattle.rules.specs.Shape.{page_no}
-use Rattle.rules.specs.Page.{Image, page_bytes, page_spare, erased, page_of, page_at, is_erased, is_entry, number_of, kind_of, address_of}
+use Rattle.rules.specs.Page.{Image, page_bytes, page_spare, erased, page_of, page_at, is_erased, is_entry, number_of, address_of, is_log, same_kind}
 use Rattle.rules.specs.Steps.{Step, program, erase, step_done, steps_done}
-use Rattle.rules.specs.Facts.{image_of, Fits, Left}
+use Rattle.rules.specs.Facts.{Fits, Left}
 use Rattle.rules.proofs.Sizes.{block_within}
 use Rattle.laws.proofs.Tests.{tcase, true_is, false_is, and_l, and_i, cond_yes, cond_no, lt_or_le}
-use Rattle.laws.proofs.Bytes.{all255_replicate, all255_at, part_lent, part_replicate, replaced_length, part_replaced_same, part_replaced_inside, part_replaced_before, part_replaced_after}
+use Rattle.laws.proofs.Bytes.{all255_replicate, all255_at, part_replicate, replaced_length, part_replaced_same, part_replaced_inside, part_replaced_before, part_replaced_after}
 use Rattle.laws.proofs.Shape.{page_no_block, page_no_away}
-use Rattle.laws.proofs.Spare.{Kind, InTable, in_table_facts, spare_bytes_number, spare_bytes_kind, spare_bytes_address, spare_bytes-in_table, spare_bytes_not_255}
+use Rattle.laws.proofs.Spare.{InTable, kind_byte_is, kind_for_byte, in_table_facts, spare_bytes_number, spare_bytes_kind, spare_bytes_address, spare_bytes-in_table, spare_bytes_not_255}
 
 -- ---- what a page says
 
@@ -30,17 +33,41 @@ is_erased_is Erased t = refl
 is_erased_is (Entry n k a) t = absurd t
 is_erased_is Junk t = absurd t
 
-pub is_entry_is : (q : Page) → T (is_entry q) → q ≡ Entry (number_of q) (kind_of q) (address_of q)
+pub is_entry_is : (q : Page) → T (is_entry q) → (k : Kind) × (q ≡ Entry (number_of q) k (address_of q))
 is_entry_is Erased t = absurd t
-is_entry_is (Entry n k a) t = refl
+is_entry_is (Entry n k a) t = (k, refl)
 is_entry_is Junk t = absurd t
+
+-- ---- kinds
+
+pub is_log_is : (k : Option Kind) → T (is_log k) → k ≡ Some Log
+is_log_is None t = absurd t
+is_log_is (Some Log) t = refl
+is_log_is (Some Copy) t = absurd t
+
+pub same_kind_is : (k m : Option Kind) → T (same_kind k m) → k ≡ m
+same_kind_is None None t = refl
+same_kind_is None (Some m) t = absurd t
+same_kind_is (Some k) None t = absurd t
+same_kind_is (Some Log) (Some Log) t = refl
+same_kind_is (Some Log) (Some Copy) t = absurd t
+same_kind_is (Some Copy) (Some Log) t = absurd t
+same_kind_is (Some Copy) (Some Copy) t = refl
+
+pub is_same_kind : (k m : Option Kind) → k ≡ m → T (same_kind k m)
+is_same_kind k m e = subst (λ (x : Option Kind). T (same_kind k x)) e (one k)
+  where
+    one : (x : Option Kind) → T (same_kind x x)
+    one None = tt
+    one (Some Log) = tt
+    one (Some Copy) = tt
 
 module _ (d t : List ℕ) where
   pub page_of-erased : T (erased d t) → page_of d t ≡ Erased
   unfolding page_of
   page_of-erased h = cond_yes (erased d t) _ _ h
 
-  pub page_of_entry : (T (erased d t) → ⊥) → T (in_table t) → page_of d t ≡ Entry (number_in t) (kind_in t) (address_in t)
+  pub page_of_entry : (T (erased d t) → ⊥) → T (in_table t) → page_of d t ≡ Entry (number_in t) (kind_for (kind_in t)) (address_in t)
   unfolding page_of
   page_of_entry h k = cond_no (erased d t) _ _ h ∙ cond_yes (in_table t) _ _ k
 
@@ -55,26 +82,30 @@ page_of_255 =
     (and_i (all255 (replicate 16 255)) (all255 (replicate 512 255)) (true_is _ (all255_replicate 16)) (true_is _ (all255_replicate 512)))
 
 -- a page programmed with number n, kind k and logical page a, whatever its data
-pub page_of-spare_bytes : (d : List ℕ) (n k a : ℕ) → 1 ≤ n → n ≤ number_limit → Kind k → a < 65536 → page_of d (spare_bytes n k a) ≡ Entry n k a
+pub page_of-spare_bytes : (d : List ℕ) (n : ℕ) (k : Kind) (a : ℕ) → 1 ≤ n → n ≤ number_limit → a < 65536
+    → page_of d (spare_bytes n (kind_byte k) a) ≡ Entry n k a
 unfolding erased
-page_of-spare_bytes d n k a low high kind small =
-    let t : List ℕ = spare_bytes n k a in
-    let number : number_in t ≡ n = spare_bytes_number n k a (omega arith) in
-    let address : address_in t ≡ a = spare_bytes_address n k a small in
-    page_of_entry d t (λ e. false_is (all255 t) (spare_bytes_not_255 n k a kind) (and_l (all255 t) (all255 d) e)) (spare_bytes-in_table n k a low high kind)
-    ∙ cc (spare_bytes_kind n k a)
+page_of-spare_bytes d n k a low high small =
+    let b : ℕ = kind_byte k in
+    let t : List ℕ = spare_bytes n b a in
+    let number : number_in t ≡ n = spare_bytes_number n b a (omega arith) in
+    let address : address_in t ≡ a = spare_bytes_address n b a small in
+    let kind : kind_for (kind_in t) ≡ k = ap kind_for (spare_bytes_kind n b a) ∙ kind_for_byte k in
+    page_of_entry d t (λ e. false_is (all255 t) (spare_bytes_not_255 n b a (kind_byte_is k)) (and_l (all255 t) (all255 d) e))
+    (spare_bytes-in_table n b a low high (kind_byte_is k))
+    ∙ cc
 
 pub is_erased-page_of : (d t : List ℕ) → is_erased (page_of d t) ≡ erased d t
 unfolding page_of
 is_erased-page_of d t = go (erased d t) (in_table t)
   where
-    go : (e f : Bool) → is_erased (cond e Erased (cond f (Entry (number_in t) (kind_in t) (address_in t)) Junk)) ≡ e
+    go : (e f : Bool) → is_erased (cond e Erased (cond f (Entry (number_in t) (kind_for (kind_in t)) (address_in t)) Junk)) ≡ e
     go true f = refl
     go false true = refl
     go false false = refl
 
 -- Spare bytes of the table say what the page is, whatever its data.
-pub page_of-in_table : (d t : List ℕ) → length t ≡ 16 → T (in_table t) → page_of d t ≡ Entry (number_in t) (kind_in t) (address_in t)
+pub page_of-in_table : (d t : List ℕ) → length t ≡ 16 → T (in_table t) → page_of d t ≡ Entry (number_in t) (kind_for (kind_in t)) (address_in t)
 unfolding erased
 page_of-in_table d t long h =
     page_of_entry d t
@@ -83,7 +114,7 @@ page_of-in_table d t long h =
     h
 
 -- what holds of a page, if it is erased, an entry or junk
-pub page_of-cases : (d t : List ℕ) (Q : Page → Type 0) → (T (erased d t) → Q Erased) → (InTable t → Q (Entry (number_in t) (kind_in t) (address_in t)))
+pub page_of-cases : (d t : List ℕ) (Q : Page → Type 0) → (T (erased d t) → Q Erased) → (InTable t → Q (Entry (number_in t) (kind_for (kind_in t)) (address_in t)))
     → Q Junk → Q (page_of d t)
 page_of-cases d t Q blank entry junk =
     elim (tcase (erased d t)) [
@@ -95,16 +126,10 @@ page_of-cases d t Q blank entry junk =
     ]
 
 -- the spare bytes of an entry
-pub page_of-is_entry : (d t : List ℕ) → T (is_entry (page_of d t)) → InTable t × (page_of d t ≡ Entry (number_in t) (kind_in t) (address_in t))
+pub page_of-is_entry : (d t : List ℕ) → T (is_entry (page_of d t)) → InTable t × (page_of d t ≡ Entry (number_in t) (kind_for (kind_in t)) (address_in t))
 page_of-is_entry d t =
-    page_of-cases d t (λ q. T (is_entry q) → InTable t × (q ≡ Entry (number_in t) (kind_in t) (address_in t))) (λ e u. absurd u) (λ f u. (f, refl))
+    page_of-cases d t (λ q. T (is_entry q) → InTable t × (q ≡ Entry (number_in t) (kind_for (kind_in t)) (address_in t))) (λ e u. absurd u) (λ f u. (f, refl))
     (λ u. absurd u)
-
--- page p of two slices, lent as &xs[i..i + 512] and &ys[j..j + 16]
-pub page_at_lent : (xs ys : List ℕ) (p i j : ℕ) → i ≡ p * 512 → j ≡ p * 16
-    → page_of (take ((i + 512) - i) (drop i xs)) (take ((j + 16) - j) (drop j ys)) ≡ page_at (image_of xs ys) p
-unfolding page_at
-page_at_lent xs ys p i j e f = rw (part_lent xs i 512, part_lent ys j 16, e, f) refl
 
 -- ---- pages of w bytes, end to end: those from page c on are replaced, m of them
 

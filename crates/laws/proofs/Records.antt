@@ -16,13 +16,12 @@ use Rattle.rules.specs.declared.block.State.TheVariants.{Bad, Free, Ill}
 use Rattle.rules.specs.declared.block.Block.{Block}
 use Rattle.rules.specs.Below.{all_below, list_below}
 use Rattle.rules.specs.Shape.{most, block_of, in_range, page_no}
-use Rattle.rules.specs.Page.{Image, page_bytes, page_spare, page_of, page_at, is_erased, is_entry, number_of, kind_of, address_of}
+use Rattle.rules.specs.Page.{Image, page_bytes, page_spare, page_of, page_at, is_erased, is_entry, number_of, kind_of, address_of, same_kind}
 use Rattle.rules.specs.WellFormed.{naming, Pages, W1, W2, W3, W4, W1to4, not_used, all_erased, used_block, good_block, is_bad, pages_of, block_at, blocks_of, is_used, is_free}
 use Rattle.laws.proofs.Tests.{tcase, is_true, is_false, and_l, or_e, lt_or_le, chain_each}
 use Rattle.laws.proofs.Below.{all_below_at, all_below_all, count_below-most, list_below-length, list_below_at}
 use Rattle.laws.proofs.Roles.{Records}
-use Rattle.laws.proofs.Spare.{Kind}
-use Rattle.laws.proofs.Pages.{page_of-cases, page_of-is_entry}
+use Rattle.laws.proofs.Pages.{page_of-is_entry}
 
 -- ---- the records and the pages of an image, by number
 
@@ -92,11 +91,11 @@ module _ (s : Shape) (g : Pages) where
   pub W2_entry : (i : ℕ) → (T (is_erased (g i)) → ⊥) → T (W2 s g i) → T (is_entry (g i))
   unfolding W2
   W2_entry i f t =
-      let same : Bool = is_entry (g i) && eqb (kind_of (g i)) (kind_of (naming g)) in
+      let same : Bool = is_entry (g i) && same_kind (kind_of (g i)) (kind_of (naming g)) in
       let number : Bool = eqb (number_of (g i)) (number_of (naming g)) in
       elim (or_e (is_erased (g i)) (same && number) t) [
         | inl e ↦ absurd (f e)
-        | inr e ↦ and_l (is_entry (g i)) (eqb (kind_of (g i)) (kind_of (naming g))) (and_l same number e)
+        | inr e ↦ and_l (is_entry (g i)) (same_kind (kind_of (g i)) (kind_of (naming g))) (and_l same number e)
       ]
 
   first_entry : 0 < s.pages → (T (all_erased s g) → ⊥) → T (W1to4 s g) → T (is_entry (naming g))
@@ -132,16 +131,6 @@ module _ (s : Shape) (im : Image) where
         | inl t ↦ rw (block_at_bad b t) p
         | inr t ↦ rw (block_at_good b (T_not (is_bad s im b) t)) q
       ]
-
-  -- no kind, log or copy
-  pub block_at_kind : 0 < s.pages → (b : ℕ) → ((block_at s im b).kind ≡ 0) ⊎ Kind (block_at s im b).kind
-  unfolding page_at
-  block_at_kind p b =
-      block_at_cases (λ x. (x.kind ≡ 0) ⊎ Kind x.kind) b (inl refl)
-      (good_block_cases s (pages_of s im b) (λ x. (x.kind ≡ 0) ⊎ Kind x.kind) (λ t. inl refl) (inl refl)
-      (λ f t. rw (pages_of_at s im b 0 p)
-      (page_of-cases (page_bytes im (page_no s b 0)) (page_spare im (page_no s b 0)) (λ q. (kind_of q ≡ 0) ⊎ Kind (kind_of q)) (λ e. inl refl)
-      (λ e. inr e.kind) (inl refl))))
 
   -- a used block has a number above 0, any other has 0
   pub block_at_number : 0 < s.pages → (b : ℕ) → is_used (block_at s im b).state ≡ ltb 0 (block_at s im b).number

@@ -9,12 +9,14 @@ use native.Mathlib.Nat.{le_refl}
 use lib.ListN.{length, length-append}
 use lib.Dec.{T, eqb}
 use borrow.Author.Tests.{eq-eqb, ne_eqb}
+use Rattle.std.specs.Prelude.{Some}
 use Rattle.rules.specs.declared.shape.Shape.{Shape}
+use Rattle.rules.specs.declared.kind.Kind.TheVariants.{Copy}
 use Rattle.rules.specs.declared.block.Block.{Block}
 use Rattle.rules.specs.Below.{none, if_any, count_below}
-use Rattle.rules.specs.Spare.{number_limit, log_kind, copy_kind}
+use Rattle.rules.specs.Spare.{number_limit}
 use Rattle.rules.specs.Shape.{page_no, block_of, offset_of}
-use Rattle.rules.specs.Page.{Image, page_bytes}
+use Rattle.rules.specs.Page.{Image, page_bytes, is_log}
 use Rattle.rules.specs.WellFormed.{Blocks, is_free, is_used, is_complete, is_data, is_live, is_obsolete, data_block, live_log, blocks_of}
 use Rattle.rules.specs.Content.{content}
 use Rattle.rules.specs.Steps.{Step, erase, step_done, steps_done, erases, programs, taken, highest, new_number, copies, copy_step, renewal}
@@ -113,7 +115,7 @@ module _ (s : Shape) (im : Image) (w : Sound s im) (rec : Recovered s (blocks_of
   -- ---- the records while pages are copied
 
   -- a copy of m pages may be the record of fb
-  copy_fits : (m : ℕ) → m ≤ s.pages → Fitting s c fb (used_with n copy_kind l m true)
+  copy_fits : (m : ℕ) → m ≤ s.pages → Fitting s c fb (used_with n (Some Copy) l m true)
   copy_fits m h =
       record {
         below = fb_below;
@@ -138,9 +140,9 @@ module _ (s : Shape) (im : Image) (w : Sound s im) (rec : Recovered s (blocks_of
   so_far_idle m h =
       record { incomplete = λ t. omega (arith, (complete_e s (so_far m) t).full, copy_record_filled s fb n l page m); no_log = no_log_lem m }
     where
-      no_log_lem : (m : ℕ) → T (is_used (so_far m).state) → (so_far m).kind ≢ log_kind
+      no_log_lem : (m : ℕ) → T (is_used (so_far m).state) → T (is_log (so_far m).kind) → ⊥
       no_log_lem zero t = λ e. t
-      no_log_lem (suc m) t = λ e. omega arith
+      no_log_lem (suc m) t = λ e. e
 
   so_far_sound : (m : ℕ) → m ≤ s.pages → WellFormed s (blocks_of s (after m)) → Sound s (after m)
   so_far_sound m h wf =
@@ -196,7 +198,7 @@ module _ (s : Shape) (im : Image) (w : Sound s im) (rec : Recovered s (blocks_of
   -- ---- with the last page
 
   abbrev whole : Block
-  whole = used_with n copy_kind l s.pages true
+  whole = used_with n (Some Copy) l s.pages true
 
   abbrev c₂ : Blocks
   c₂ = changed c fb whole

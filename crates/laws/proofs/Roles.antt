@@ -11,7 +11,7 @@ use Rattle.rules.specs.declared.block.State.{State}
 use Rattle.rules.specs.declared.block.State.TheVariants.{Bad, Free, Ill, Used}
 use Rattle.rules.specs.declared.block.Block.{Block}
 use Rattle.rules.specs.Below.{none, all_below, count_below, first_below}
-use Rattle.rules.specs.Spare.{log_kind}
+use Rattle.rules.specs.Page.{is_log}
 use Rattle.rules.specs.Shape.{most, good_needed}
 use Rattle.rules.specs.WellFormed.{Blocks, not_used, is_good, is_free, is_ill, is_used, no_two, W5, is_complete, data_number, is_data, is_live, W6, is_obsolete, data_block, live_log, live_logs, W7, well_formed}
 use Rattle.rules.specs.Steps.{taken, highest}
@@ -109,7 +109,7 @@ pub record IsData (s : Shape) (d : ℕ) (x : Block) : Type 0 where
 
 pub record IsLive (s : Shape) (d : ℕ) (x : Block) : Type 0 where
   pub used : T (is_used x.state)
-  pub log : x.kind ≡ log_kind
+  pub log : T (is_log x.kind)
   pub incomplete : T (is_complete s x) → ⊥
   pub above : d < x.number
 
@@ -130,19 +130,19 @@ module _ (s : Shape) (c : Blocks) (j : ℕ) where
   data_i p = and_i (is_complete s (c j)) (eqb (c j).number data_of) p.complete (eq→eqb (c j).number data_of p.number)
 
   abbrev live_tests : List Bool
-  live_tests = eqb (c j).kind log_kind ∷ not (is_complete s (c j)) ∷ ltb data_of (c j).number ∷ []
+  live_tests = is_log (c j).kind ∷ not (is_complete s (c j)) ∷ ltb data_of (c j).number ∷ []
 
   pub live_e : T (is_live s c j) → IsLive s (data_number s c (c j).logical) (c j)
   unfolding is_live
   live_e t =
       let (u, (k, (n, (a, _)))) = chain_each (is_used (c j).state) live_tests t in
-      record { used = u; log = eqb→eq (c j).kind log_kind k; incomplete = T_not (is_complete s (c j)) n; above = ltb→lt data_of (c j).number a }
+      record { used = u; log = k; incomplete = T_not (is_complete s (c j)) n; above = ltb→lt data_of (c j).number a }
 
   pub live_i : IsLive s (data_number s c (c j).logical) (c j) → T (is_live s c j)
   unfolding is_live
   live_i p =
       each_chain (is_used (c j).state) live_tests p.used
-      (eq→eqb (c j).kind log_kind p.log, (not_T (is_complete s (c j)) p.incomplete, (lt→ltb data_of (c j).number p.above, tt)))
+      (p.log, (not_T (is_complete s (c j)) p.incomplete, (lt→ltb data_of (c j).number p.above, tt)))
 
   pub data_used : T (is_data s c j) → T (is_used (c j).state)
   data_used t = (complete_e s (c j) (data_e t).complete).used

@@ -9,19 +9,31 @@ use native.Mathlib.Omega.{arith}
 use borrow.Author.Tests.{ne_eqb}
 use lib.Dec.{T, leb, eqb, leb→le, le→leb, eqb→eq}
 use lib.ListN.{length, drop}
+use Rattle.rules.specs.declared.kind.Kind.{Kind}
+use Rattle.rules.specs.declared.kind.Kind.TheVariants.{Log, Copy}
 use Rattle.rules.specs.Bytes.{all255}
-use Rattle.rules.specs.Spare.{number_limit, log_kind, copy_kind, number_in, kind_in, status_in, address_in, in_table, spare_bytes}
+use Rattle.rules.specs.Spare.{number_limit, log_kind, copy_kind, kind_byte, kind_for, number_in, kind_in, status_in, address_in, in_table, spare_bytes}
 use Rattle.laws.proofs.Tests.{or_l, or_r, or_e, chain_each, each_chain, eq→eqb}
 
 -- ---- in_table
 
-abbrev pub Kind : ℕ → Type 0
-Kind k = (k ≡ log_kind) ⊎ (k ≡ copy_kind)
+-- the byte of a kind
+abbrev pub KindByte : ℕ → Type 0
+KindByte b = (b ≡ log_kind) ⊎ (b ≡ copy_kind)
+
+pub kind_byte_is : (k : Kind) → KindByte (kind_byte k)
+kind_byte_is Log = inl refl
+kind_byte_is Copy = inr refl
+
+-- the kind of its byte is the kind
+pub kind_for_byte : (k : Kind) → kind_for (kind_byte k) ≡ k
+kind_for_byte Log = refl
+kind_for_byte Copy = refl
 
 pub record InTable (t : List ℕ) : Type 0 where
   pub number_low : 1 ≤ number_in t
   pub number_high : number_in t ≤ number_limit
-  pub kind : Kind (kind_in t)
+  pub kind : KindByte (kind_in t)
   pub status : status_in t ≡ 255
   pub rest : T (all255 (drop 8 t))
 
@@ -81,14 +93,14 @@ module _ (n k a : ℕ) where
   unfolding spare_bytes
   spare_bytes_address h = omega arith
 
-  pub spare_bytes-in_table : 1 ≤ n → n ≤ number_limit → Kind k → T (in_table (spare_bytes n k a))
+  pub spare_bytes-in_table : 1 ≤ n → n ≤ number_limit → KindByte k → T (in_table (spare_bytes n k a))
   unfolding spare_bytes all255
   spare_bytes-in_table low high kind =
       let e : number_in (spare_bytes n k a) ≡ n = spare_bytes_number (omega arith) in
       facts_in_table (spare_bytes n k a) (record { number_low = omega arith; number_high = omega arith; kind = kind; status = refl; rest = tt })
 
   -- A programmed page is never taken for an erased one, whatever its data.
-  pub spare_bytes_not_255 : Kind k → all255 (spare_bytes n k a) ≡ false
+  pub spare_bytes_not_255 : KindByte k → all255 (spare_bytes n k a) ≡ false
   unfolding spare_bytes all255
   spare_bytes_not_255 kind =
       let e : eqb k 255 ≡ false = ne_eqb k 255 (λ h. ⊎_elim (λ g. omega arith) (λ g. omega arith) kind) in

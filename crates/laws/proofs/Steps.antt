@@ -8,12 +8,13 @@ use native.Mathlib.Nat.{le_refl}
 use lib.ListN.{length}
 use lib.Dec.{T}
 use Rattle.rules.specs.declared.shape.Shape.{Shape}
+use Rattle.rules.specs.declared.kind.Kind.{Kind}
 use Rattle.rules.specs.declared.page.Page.{Page}
 use Rattle.rules.specs.declared.page.Page.TheVariants.{Erased}
 use Rattle.rules.specs.declared.block.State.TheVariants.{Free}
 use Rattle.rules.specs.declared.block.Block.{Block}
 use Rattle.rules.specs.Bytes.{all255}
-use Rattle.rules.specs.Spare.{number_limit, address_in, spare_bytes}
+use Rattle.rules.specs.Spare.{kind_byte, number_limit, address_in, spare_bytes}
 use Rattle.rules.specs.Shape.{page_no}
 use Rattle.rules.specs.Page.{Image, page_bytes, page_spare, erased, page_at, is_erased}
 use Rattle.rules.specs.WellFormed.{not_used, is_good, is_free, is_used, is_bad, block_at, blocks_of}
@@ -21,7 +22,7 @@ use Rattle.rules.specs.Steps.{Step, erase, step_done, entry_step}
 use Rattle.rules.specs.Facts.{Fits}
 use Rattle.laws.proofs.Tests.{false_is, dec_eq}
 use Rattle.laws.proofs.Shape.{page_no_below, page_no_block, page_no_same_block, page_no_same_place}
-use Rattle.laws.proofs.Spare.{spare_bytes-length, spare_bytes_status, spare_bytes_address, spare_bytes_not_255}
+use Rattle.laws.proofs.Spare.{kind_byte_is, spare_bytes-length, spare_bytes_status, spare_bytes_address, spare_bytes_not_255}
 use Rattle.laws.proofs.Pages.{page_of-cases, Programs, program_fits, program_page, program_other, erase_fits, erase_other}
 use Rattle.laws.proofs.Roles.{good_below, used_good, free_good}
 use Rattle.laws.proofs.Records.{blocks_of_at, blocks_of_records}
@@ -96,10 +97,10 @@ erase_done s im w b g =
 
 -- ---- the program of the next page of a block
 
-abbrev pub next_step : Shape → Image → ℕ → ℕ → ℕ → ℕ → List ℕ → Step
-next_step s im b n k a d = entry_step (page_no s b (blocks_of s im b).filled) n k a d
+abbrev pub next_step : Shape → Image → ℕ → ℕ → Kind → ℕ → List ℕ → Step
+next_step s im b n k a d = entry_step (page_no s b (blocks_of s im b).filled) n (kind_byte k) a d
 
-pub record Programmed (s : Shape) (im : Image) (b n k a : ℕ) (d : List ℕ) (im' : Image) : Type 0 where
+pub record Programmed (s : Shape) (im : Image) (b n : ℕ) (k : Kind) (a : ℕ) (d : List ℕ) (im' : Image) : Type 0 where
   pub fits : Fits s im'
   pub blocks : blocks_of s im' ≡ changed (blocks_of s im) b (one_more s (blocks_of s im b) n k a)
   pub others : (j : ℕ) → j ≢ b → SamePages s im im' j s.pages
@@ -108,7 +109,7 @@ pub record Programmed (s : Shape) (im : Image) (b n k a : ℕ) (d : List ℕ) (i
   pub address : address_in (page_spare im' (page_no s b (blocks_of s im b).filled)) ≡ a
   pub allowed : Allowed s (next_step s im b n k a d) im
 
-module _ (s : Shape) (im : Image) (w : Fits s im) (b n k a : ℕ) (d : List ℕ) (e : Writable n k a) (j : Joins s (blocks_of s im b) n k a)
+module _ (s : Shape) (im : Image) (w : Fits s im) (b n : ℕ) (k : Kind) (a : ℕ) (d : List ℕ) (e : Writable n a) (j : Joins s (blocks_of s im b) n k a)
     (long : length d ≡ 512) where
   abbrev f : ℕ
   f = (blocks_of s im b).filled
@@ -122,8 +123,8 @@ module _ (s : Shape) (im : Image) (w : Fits s im) (b n k a : ℕ) (d : List ℕ)
   hb : b < s.blocks
   hb = good_in s im w b good
 
-  page : Programs s (page_no s b f) d (spare_bytes n k a)
-  page = record { page_in = page_no_below s b f hb j.room; bytes_long = long; spare_long = spare_bytes-length n k a }
+  page : Programs s (page_no s b f) d (spare_bytes n (kind_byte k) a)
+  page = record { page_in = page_no_below s b f hb j.room; bytes_long = long; spare_long = spare_bytes-length n (kind_byte k) a }
 
   blank : page_at im (page_no s b f) ≡ Erased
   blank =
@@ -150,13 +151,13 @@ module _ (s : Shape) (im : Image) (w : Fits s im) (b n k a : ℕ) (d : List ℕ)
             (λ q. let z : i ≡ f = page_no_same_place s b b i f (omega (arith, j.room)) j.room q in omega arith) in
             (q.bytes_are, q.spare_are);
         bytes = (program_page s im w page).bytes_are;
-        address = ap address_in (program_page s im w page).spare_are ∙ spare_bytes_address n k a e.address;
+        address = ap address_in (program_page s im w page).spare_are ∙ spare_bytes_address n (kind_byte k) a e.address;
         allowed = record {
           page = page;
           erased = page_at-erased im (page_no s b f) blank;
           good = λ t. good_not_bad s im w b good (subst (λ (i : ℕ). T (is_bad s im i)) (page_no_block s b f j.room) t);
           programmed =
-              false_is (all255 (spare_bytes n k a)) (spare_bytes_not_255 n k a e.kind);
-          status = spare_bytes_status n k a;
+              false_is (all255 (spare_bytes n (kind_byte k) a)) (spare_bytes_not_255 n (kind_byte k) a (kind_byte_is k));
+          status = spare_bytes_status n (kind_byte k) a;
         };
       }

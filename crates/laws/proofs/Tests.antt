@@ -1,5 +1,5 @@
 -- Tests as facts: T b says that the test b passes.
-use mathlib.Core.Path.{◌≡◌, refl, sym, ap, ◌∙◌, subst}
+use mathlib.Core.Path.{◌≡◌, refl, sym, ap, subst}
 use mathlib.Core.Logic.{◌≢◌, ◌⊎◌, inl, inr}
 use mathlib.Core.Bool.{Bool, true, false, not, ◌&&◌, ◌||◌, cond}
 use mathlib.Core.List.{List, [], ◌∷◌}
@@ -60,13 +60,6 @@ or_r false b t = t
 pub or_e : (a b : Bool) → T (a || b) → T a ⊎ T b
 or_e true b t = inl tt
 or_e false b t = inr t
-
--- what a call of `and` or `or` answers, where its two tests answer x and y
-pub and_is : {a b x y r : Bool} → r ≡ (a && b) → a ≡ x → b ≡ y → r ≡ (x && y)
-and_is {a} {y = y} e f g = e ∙ ap (λ (t : Bool). a && t) g ∙ ap (λ (t : Bool). t && y) f
-
-pub or_is : {a b x y r : Bool} → r ≡ (a || b) → a ≡ x → b ≡ y → r ≡ (x || y)
-or_is {a} {y = y} e f g = e ∙ ap (λ (t : Bool). a || t) g ∙ ap (λ (t : Bool). t || y) f
 
 -- ---- a choice
 

@@ -1,7 +1,7 @@
 -- Sixteen spare bytes by fours.
 use mathlib.Core.Path.{◌≡◌, refl, sym, ap, subst, ◌∙◌}
 use mathlib.Core.Logic.{inl, inr, ⊎_elim}
-use mathlib.Core.Bool.{Bool, ◌&&◌}
+use mathlib.Core.Bool.{Bool, true, false, ◌&&◌, cond}
 use mathlib.Core.List.{List, [], ◌∷◌}
 use Prim.Native.Nat.{ℕ, suc, ◌+◌, ◌*◌, ◌≤◌, ◌<◌}
 use native.Mathlib.Omega.{arith}
@@ -9,11 +9,45 @@ use lib.Dec.{T, eqb, eqb→eq}
 use lib.ListN.{length, take, drop, length-drop}
 use lib.Seq.{take_all, drop-cons, drop-drop}
 use Rattle.rules.specs.Bytes.{all255, byte, part}
-use Rattle.rules.specs.Spare.{number_in, kind_in, status_in, address_in, in_table}
+use Rattle.std.specs.Prelude.{Option, Some, None, Result, Ok, Err, ◌||◌, is_some, MatchOption, ⊤}
+use Rattle.std.specs.Result.{result_ok}
+use borrow.Author.Tests.{ne_eqb}
+use Rattle.rules.specs.declared.kind.Kind.{Kind}
+use Rattle.rules.specs.declared.kind.Kind.TheVariants.{Log, Copy}
+use Rattle.rules.specs.declared.kind.UnknownKind.{UnknownKind}
+use Rattle.rules.specs.declared.page.Page.TheVariants.{Entry}
+use Rattle.rules.specs.Spare.{Reads, log_kind, copy_kind, kind_for, number_in, kind_in, status_in, address_in, in_table}
 use Rattle.laws.proofs.Tests.{lt_or_le, bool_ext, eq→eqb, chain_each, each_chain}
 use Rattle.laws.proofs.Bytes.{all255_more, all255_at, part_length}
-use Rattle.laws.proofs.Spare.{InTable, facts_in_table, in_table_facts}
-use Rattle.nand.specs.Entries.{Word, OfTable, is_entry_of}
+use Rattle.laws.proofs.Spare.{InTable, KindByte, facts_in_table, in_table_facts}
+use Rattle.nand.specs.Entries.{Word, OfTable, kind_told, is_entry_of}
+
+-- the kind that a byte is read as
+pub kind_read : (b : ℕ) (r : Result Kind UnknownKind) → Reads b r → result_ok r ≡ kind_told b
+kind_read b (Ok Log) e = rw (← e) refl
+kind_read b (Ok Copy) e = rw (← e) refl
+kind_read b (Err x) (_, no_log, no_copy) = rw (ne_eqb b log_kind no_log, ne_eqb b copy_kind no_copy) refl
+
+-- whether it names one
+pub kind_named : (b : ℕ) → is_some (kind_told b) ≡ (eqb b log_kind || eqb b copy_kind)
+kind_named b = go (eqb b log_kind) (eqb b copy_kind)
+  where
+    go : (l c : Bool) → is_some (cond l (Some Log) (cond c (Some Copy) None)) ≡ (l || c)
+    go true c = refl
+    go false true = refl
+    go false false = refl
+
+-- bytes of the table name their kind
+pub kind_of_table : (t : List ℕ) → T (in_table t) → kind_told (kind_in t) ≡ Some (kind_for (kind_in t))
+kind_of_table t h = ⊎_elim (λ e. rw e refl) (λ e. rw e refl) (in_table_facts t h).kind
+
+pub entry_of_table : (t : List ℕ) {k : Kind} → Some k ≡ kind_told (kind_in t) → T (in_table t)
+    → Entry (number_in t) k (address_in t) ≡ Entry (number_in t) (kind_for (kind_in t)) (address_in t)
+entry_of_table t {k} e h = let same : Some k ≡ Some (kind_for (kind_in t)) = e ∙ kind_of_table t h in cc
+
+-- those that name none are not of the table
+pub no_kind : (t : List ℕ) → None ≡ kind_told (kind_in t) → T (in_table t) → ⊥
+no_kind t e h = subst (λ (o : Option Kind). MatchOption o ⊤ (λ _. ⊥)) (e ∙ kind_of_table t h) tt
 
 part-cons : (t : List ℕ) (i j n : ℕ) → i < length t → j ≡ i + 1 → part t i (suc n) ≡ byte t i ∷ part t j n
 part-cons t i j n h e =
@@ -67,13 +101,13 @@ rest_255 t long =
     ap all255 (sym (take_all 8 (drop 8 t) short)) ∙ all255_more (drop 8 t) 4 4
     ∙ ap (λ (l : List ℕ). all255 (part t 8 4) && all255 (take 4 l)) (drop-drop 4 8 t)
 
-module _ (t : List ℕ) (n k a : ℕ) (long : length t ≡ 16) (o : OfTable n k) {w₀ w₁ w₂ w₃ : ℕ} (u₀ : Word t 0 w₀) (u₁ : Word t 4 w₁) (u₂ : Word t 8 w₂)
+module _ (t : List ℕ) (n k a : ℕ) (long : length t ≡ 16) (o : OfTable n) (byte_of : KindByte k) {w₀ w₁ w₂ w₃ : ℕ} (u₀ : Word t 0 w₀) (u₁ : Word t 4 w₁) (u₂ : Word t 8 w₂)
     (u₃ : Word t 12 w₃) where
   rest : (eqb w₂ 4294967295 && eqb w₃ 4294967295) ≡ all255 (drop 8 t)
   rest = rw (word_255 t 8 (omega arith) u₂, word_255 t 12 (omega arith) u₃) (sym (rest_255 t long))
 
   small : k < 256
-  small = ⊎_elim (λ e. omega arith) (λ e. omega arith) o.kind
+  small = ⊎_elim (λ e. omega arith) (λ e. omega arith) byte_of
 
   pub entry_told : (eqb w₀ n && eqb w₁ (k + 65280 + a * 65536) && (eqb w₂ 4294967295 && eqb w₃ 4294967295)) ≡ is_entry_of t n k a
   unfolding is_entry_of
@@ -89,7 +123,7 @@ module _ (t : List ℕ) (n k a : ℕ) (long : length t ≡ 16) (o : OfTable n k)
       let (kind, upper) = digits (kind_in t) k (status_in t + address_in t * 256) (255 + a * 256) u₁.small_0 small (omega (arith, f, u₁.is)) in
       let (status, address) = digits (status_in t) 255 (address_in t) a u₁.small_1 (omega arith) upper in
       let table : InTable t =
-      record { number_low = omega (arith, o.low); number_high = omega (arith, o.high); kind = rw kind o.kind; status = status; rest = subst T rest q₂ } in
+      record { number_low = omega (arith, o.low); number_high = omega (arith, o.high); kind = rw kind byte_of; status = status; rest = subst T rest q₂ } in
       each_chain (in_table t) fields (facts_in_table t table) (eq→eqb _ _ number, (eq→eqb _ _ kind, (eq→eqb _ _ address, tt))))
       (λ q. let (q₀, (q₁, (q₂, (q₃, _)))) = chain_each (in_table t) fields q in
       let table = in_table_facts t q₀ in

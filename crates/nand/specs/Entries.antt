@@ -1,5 +1,7 @@
 -- Sixteen spare bytes held against those of an entry.
-use Rattle.std.specs.Prelude.{◌≡◌, ◌⊎◌, Bool, ◌&&◌, List, ℕ, ◌+◌, ◌*◌, ◌≤◌, ◌<◌, eqb}
+use Rattle.std.specs.Prelude.{◌≡◌, Option, Some, None, Bool, ◌&&◌, cond, List, ℕ, ◌+◌, ◌*◌, ◌≤◌, ◌<◌, eqb}
+use Rattle.rules.specs.declared.kind.Kind.{Kind}
+use Rattle.rules.specs.declared.kind.Kind.TheVariants.{Log, Copy}
 use Rattle.rules.specs.Bytes.{byte}
 use Rattle.rules.specs.Spare.{number_limit, log_kind, copy_kind, number_in, kind_in, address_in, in_table}
 
@@ -11,11 +13,14 @@ pub record Word (t : List ℕ) (i w : ℕ) : Type 0 where
   pub small_2 : byte t (i + 2) < 256
   pub small_3 : byte t (i + 3) < 256
 
--- a number and a kind that the spare table lets stand
-pub record OfTable (n k : ℕ) : Type 0 where
+-- a number that the spare table lets stand
+pub record OfTable (n : ℕ) : Type 0 where
   pub low : 1 ≤ n
   pub high : n ≤ number_limit
-  pub kind : (k ≡ log_kind) ⊎ (k ≡ copy_kind)
+
+-- the kind that byte b names, if it names one
+abbrev pub kind_told : ℕ → Option Kind
+kind_told b = cond (eqb b log_kind) (Some Log) (cond (eqb b copy_kind) (Some Copy) None)
 
 -- they are bytes of the table, with number n, kind k and logical page a
 unfoldable pub is_entry_of : List ℕ → ℕ → ℕ → ℕ → Bool

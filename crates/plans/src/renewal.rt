@@ -9,22 +9,22 @@ use roles::seats::Seats;
 pub struct Renewal {
     // the logical block, the block taken, its log block and its data block
     pub logical: usize,
-    pub into: usize,
-    pub log: usize,
-    pub data: usize,
+    pub into: Option<usize>,
+    pub log: Option<usize>,
+    pub data: Option<usize>,
     // the highest number so far: the block taken gets the next one
     pub highest: u32,
 }
 
-// Of logical block l, whose blocks are q.
-pub fn by(t: Census, l: usize, q: Seats) -> Renewal
-    ensures { result ≡ renewal_by t l q }
+// Of logical block l, whose blocks are those of seats.
+pub fn by(census: &Census, l: usize, seats: Seats) -> Renewal
+    ensures { result ≡ renewal_by census.now l seats }
 {
     Renewal {
         logical: l,
-        into: t.free,
-        log: q.log,
-        data: q.data,
-        highest: t.highest,
+        into: census.free,
+        log: seats.log,
+        data: seats.data,
+        highest: census.highest,
     }
 }

@@ -3,57 +3,69 @@
 #![tactic(auto)]
 
 ghost use Rattle.rules.specs.Facts.{image_of};
+ghost use Rattle.rules.specs.Replies.{answer_of};
 ghost use Rattle.rules.specs.Promises.{ReadDone, LentAt, Lent};
 
 use content::holder;
+use nand::chip::Chip;
+use roles::records::Room;
 use rules::answer::Answer;
-use rules::place::Place;
-use rules::shape::{MOST, Shape};
+use rules::refusal::Refusal;
+use rules::shape::{DATA, Shape};
+
+fn read_if_well(
+    bytes: &[u8],
+    spare: &[u8],
+    page: &mut [u8],
+    s: Shape,
+    a: usize,
+) -> Result<Answer, Refusal>
+    ensures { ReadDone s (image_of bytes.now spare.now)
+        page.old a (answer_of result) page.new }
+{
+    let sized = page.len() == 512;
+    let mut room = Room::new();
+    survey::of(bytes, spare, s, sized, s.in_range(a), &mut room)?;
+    let chip = Chip {
+        bytes,
+        spare,
+        shape: s,
+    };
+    content::fetch(&chip, &room.records(s), a, page);
+    Ok(Answer::Done {
+        programs: 0,
+        erases: 0,
+    })
+}
 
 // Read, of a card of shape s.
 pub fn read(bytes: &[u8], spare: &[u8], page: &mut [u8], s: Shape, a: usize) -> Answer
     ensures { ReadDone s (image_of bytes.now spare.now)
         page.old a result page.new }
 {
-    let mut list = [0u64; MOST];
-    let mut numbers = [0u32; MOST];
-    let sized = page.len() == 512;
-    let ranged = s.in_range(a);
-    let v = survey::of(bytes, spare, &mut list, &mut numbers, s, sized, ranged);
-    if v.refusal != 0 {
-        return Answer::Refused(v.refusal);
-    }
-    content::fetch(bytes, spare, page, s, &list, &numbers, a);
-    Answer::Done {
-        programs: 0,
-        erases: 0,
-    }
+    Answer::from(read_if_well(bytes, spare, page, s, a))
 }
 
 // The page to lend, of a card of shape s.
-pub fn place(bytes: &[u8], spare: &[u8], s: Shape, a: usize) -> Place
+pub fn place(bytes: &[u8], spare: &[u8], s: Shape, a: usize) -> Option<usize>
     ensures { LentAt s (image_of bytes.now spare.now) a result }
 {
-    let mut list = [0u64; MOST];
-    let mut numbers = [0u32; MOST];
-    let ranged = s.in_range(a);
-    let opened = survey::of(bytes, spare, &mut list, &mut numbers, s, true, ranged);
-    if opened.refusal != 0 {
-        return Place::Nowhere;
+    let mut room = Room::new();
+    match survey::of(bytes, spare, s, true, s.in_range(a), &mut room) {
+        Ok(_) => holder::of(spare, &room.records(s), a),
+        Err(_) => None,
     }
-    holder::of(s, spare, &list, &numbers, a)
 }
 
-// Lending, of a card of shape s.
+// Lending, of a card of shape s. The part is of the caller's own slice, and outlives any `Chip`.
 pub fn lend<'a>(bytes: &'a [u8], spare: &[u8], s: Shape, a: usize) -> &'a [u8]
     ensures { Lent s (image_of bytes.now spare.now) a result.now }
 {
-    let found = place(bytes, spare, s, a);
-    match found {
-        Place::At(p) => {
-            let at = s.page_bytes(p);
-            &bytes[at..at + 512]
+    match place(bytes, spare, s, a) {
+        Some(p) => {
+            let at = s.page_start::<DATA>(p);
+            &bytes[at..at + DATA]
         }
-        Place::Nowhere => &bytes[0..0],
+        None => &bytes[0..0],
     }
 }

@@ -1,102 +1,72 @@
 // W5 to W7: what no two blocks may have in common, and all rules together.
-ghost use Rattle.std.specs.Prelude.{◌≡◌, false, ◌≤◌, ◌<◌, replicate};
+ghost use Rattle.std.specs.Prelude.{◌≡◌, ◌<◌};
 ghost use Rattle.rules.specs.Shape.{most};
 ghost use Rattle.rules.specs.WellFormed.{W5, W6, well_formed};
-ghost use Rattle.words.specs.Words.{records_in};
-ghost use Rattle.roles.specs.Passes.{Numbered, Numbers, census};
+ghost use Rattle.roles.specs.Kept.{recorded_by};
 ghost use Rattle.refusals.specs.Clashes.{numbers_in, apart_below};
 
-use roles::census::Census;
-use roles::role;
-use rules::shape::{MOST, Shape};
-use rules::test;
+use roles::records::{Counted, Records};
+use rules::shape::MOST;
+use std::array;
 
-// Puts the number of each block into an array of their own, 0 for a block that is not used: so they are compared several at a time.
-fn take_numbers(list: &[u64; MOST], own: &mut [u32; MOST])
-    requires { own.old ≡ replicate most 0 }
-    ensures { own.new ≡ numbers_in (records_in list.now) }
+// The number of each block in an array of their own, 0 for a block that is not used: so they are compared several at a time, as they could not be with the records between them.
+fn numbers_in(records: &Records) -> [u32; MOST]
+    ensures { result ≡ numbers_in (recorded_by records.now) }
 {
-    let mut j = 0;
-    while j < MOST {
-        own[j] = words::number(list[j]);
-        j += 1;
-    }
+    array::from_fn(|j| records.block(j).number)
 }
 
-// Whether block i has no number, or another one than each block below it.
+// Whether block i has no number, or another one than each block below it. Each is looked at, for the same reason.
 fn apart_below(own: &[u32; MOST], i: usize) -> bool
     requires { i < most }
     ensures { result ≡ apart_below own.now i }
 {
     let n = own[i];
-    if n == 0 {
-        return true;
-    }
     let mut all = true;
-    let mut j = 0;
-    while j < i {
-        all = test::and(all, own[j] != n);
-        j += 1;
+    for other in &own[..i] {
+        all &= *other != n;
     }
-    all
+    (n == 0) | all
 }
 
 // W5, by pairs.
-fn numbers_apart(s: Shape, list: &[u64; MOST]) -> bool
-    requires { (s.blocks ≤ most) × Numbered (records_in list.now) }
-    ensures { result ≡ W5 s (records_in list.now) }
+fn numbers_apart(records: &Records) -> bool
+    ensures { result ≡ W5 records.now.shape (recorded_by records.now) }
 {
-    let blocks = s.blocks;
-    let mut own = [0u32; MOST];
-    take_numbers(list, &mut own);
+    let own = numbers_in(records);
     let mut all = true;
-    let mut i = 0;
-    while i < blocks {
-        all = test::and(all, apart_below(&own, i));
-        i += 1;
+    for i in 0..records.shape.blocks {
+        all &= apart_below(&own, i);
     }
     all
-}
-
-fn room() -> [bool; MOST]
-    ensures { result ≡ replicate most false }
-{
-    [false; MOST]
 }
 
 // W6, in one pass: `taken` says of which logical blocks a live log block was met.
-fn logs_apart<'a>(s: Shape, list: &'a [u64; MOST], numbers: &'a [u32; MOST]) -> bool
-    requires { Numbers s (records_in list.now) numbers.now }
-    ensures { result ≡ W6 s (records_in list.now) }
+fn logs_apart(records: &Records) -> bool
+    ensures { result ≡ W6 records.now.shape (recorded_by records.now) }
 {
-    let blocks = s.blocks;
-    let mut taken = room();
+    let mut taken = [false; MOST];
     let mut all = true;
-    let mut i = 0;
-    while i < blocks {
-        let x = words::unpack(list[i]);
-        let at = x.logical as usize;
-        let d = numbers[at];
-        let live = role::is_live(s, x, d);
-        let had = taken[at];
-        all = test::and(all, !test::and(live, had));
-        taken[at] = test::or(had, live);
-        i += 1;
+    for i in 0..records.shape.blocks {
+        let live = records.is_live(i);
+        let l = usize::from(records.block(i).logical);
+        all &= !(live & taken[l]);
+        taken[l] |= live;
     }
     all
 }
 
-// W1 to W7, by the census t of the records.
-pub fn is_well_formed<'a>(
-    s: Shape,
-    list: &'a [u64; MOST],
-    numbers: &'a [u32; MOST],
-    t: Census,
-) -> bool
-    requires { Numbers s (records_in list.now) numbers.now × (t ≡ census s (records_in list.now)) }
-    ensures { result ≡ well_formed s (records_in list.now) }
+// W1 to W7.
+pub fn is_well_formed(counted: &Counted) -> bool
+    ensures { result ≡ well_formed counted.now.records.shape (recorded_by counted.now.records) }
 {
-    let first = test::and(t.sound, numbers_apart(s, list));
-    let both = test::and(first, logs_apart(s, list, numbers));
-    test::and(both, t.live <= s.logs)
+    let Counted {
+        records,
+        census,
+        ..
+    } = counted;
+    census.sound
+        & numbers_apart(records)
+        & logs_apart(records)
+        & (census.live <= records.shape.logs)
 }

@@ -1,44 +1,50 @@
-// The refusals: the lowest number that applies, 0 for none.
+// The refusals: the first of document 01's table that applies.
 
 #![tactic(auto)]
 
 ghost use Rattle.std.specs.Prelude.{◌≡◌, ◌*◌, ◌<◌, eqb};
-ghost use Rattle.refusals.specs.Orders.{call_refusal, late_refusal};
+ghost use Rattle.refusals.specs.Orders.{call_refusal, late_refusal, ok_unless};
 
 use roles::census::Census;
 use rules::page::NUMBER_LIMIT;
+use rules::refusal::Refusal;
 use rules::shape::Shape;
-use rules::test;
 
 pub mod clash;
 
 // 1 to 3: what the call itself shows. `sized` says that what is lent has the length asked, `ranged` that the logical page or block is in range.
-pub fn of_call(s: Shape, bytes: usize, spares: usize, sized: bool, ranged: bool) -> u8
-    ensures { result ≡ call_refusal s bytes spares sized ranged }
+pub fn of_call(
+    s: Shape,
+    bytes: usize,
+    spares: usize,
+    sized: bool,
+    ranged: bool,
+) -> Result<(), Refusal>
+    ensures { result ≡ ok_unless (call_refusal s bytes spares sized ranged) tt }
 {
     if !s.within(bytes, spares) {
-        return 1;
+        return Err(Refusal::OutsideLimits);
     }
     if !sized {
-        return 2;
+        return Err(Refusal::WrongLength);
     }
     if !ranged {
-        return 3;
+        return Err(Refusal::OutOfRange);
     }
-    0
+    Ok(())
 }
 
 // 6 and 7: what a write or block write that needs so many new numbers shows.
-pub fn of_write(t: Census, needed: u32) -> u8
-    ensures { result ≡ late_refusal t needed }
+pub fn of_write(t: &Census, needed: u32) -> Result<(), Refusal>
+    ensures { result ≡ ok_unless (late_refusal t.now needed) tt }
 {
     if !t.recovered {
-        return 6;
+        return Err(Refusal::Unrecovered);
     }
-    if t.highest as u64 + needed as u64 > NUMBER_LIMIT as u64 {
-        return 7;
+    if u64::from(t.highest) + u64::from(needed) > u64::from(NUMBER_LIMIT) {
+        return Err(Refusal::OutOfNumbers);
     }
-    0
+    Ok(())
 }
 
 // Whether size is parts x each, for any numbers: the product itself might not fit.
@@ -46,7 +52,7 @@ fn is_times(size: usize, parts: usize, each: usize) -> bool
     requires { 0 < each }
     ensures { result ≡ eqb size (parts * each) }
 {
-    test::and(size / each == parts, size % each == 0)
+    (size / each == parts) & (size % each == 0)
 }
 
 // Whether a table has 2 x L numbers, for any L.

@@ -1,8 +1,9 @@
 -- Laws of the passes over the records.
 use mathlib.Core.Path.{◌≡◌, refl, sym, ap, ◌∙◌}
 use mathlib.Core.Logic.{inl, inr}
-use mathlib.Core.Bool.{Bool, true, false, not, ◌&&◌, ◌||◌, cond, and-true, and-false}
+use mathlib.Core.Bool.{Bool, true, false, not, ◌&&◌, ◌||◌, cond, and-false}
 use mathlib.Core.List.{List}
+use mir.Val.{bool_byte}
 use Prim.Native.Nat.{ℕ, ◌+◌, ◌≤◌, ◌<◌, max}
 use native.Mathlib.Nat.{max-zero}
 use native.Mathlib.Omega.{arith}
@@ -12,15 +13,18 @@ use lib.Seq.{get_or-set_same, get_or-set_other}
 use borrow.Author.Tests.{eq-eqb, ne_eqb}
 use Rattle.rules.specs.declared.shape.Shape.{Shape}
 use Rattle.rules.specs.declared.block.Block.{Block}
-use Rattle.rules.specs.Below.{none, is_none, or_none, all_below, count_below, highest_below, first_below, lowest_below}
-use Rattle.rules.specs.WellFormed.{Blocks, is_good, is_free, is_ill, is_complete, complete_number, data_number, is_data, is_live, is_obsolete, is_data_by, is_live_by, is_obsolete_by}
+use Rattle.rules.specs.Shape.{most}
+use Rattle.rules.specs.Below.{found, none, is_none, all_below, count_below, highest_below, first_below, lowest_below}
+use Rattle.rules.specs.WellFormed.{Blocks, is_good, is_free, is_ill, is_complete, complete_number, data_number, is_data, is_live, is_obsolete}
 use Rattle.laws.proofs.Tests.{dec_eq}
 use Rattle.laws.proofs.Below.{list_below_at, list_below_ext, count_below-most, all_below_more, count_below_more, highest_below_more, first_below_more, lowest_below_more}
-use Rattle.roles.specs.declared.census.Census.{Census}
 use Rattle.roles.specs.declared.seats.Seats.{Seats}
-use Rattle.rules.specs.Shape.{most}
-use Rattle.roles.specs.Passes.{Recorded, Numbers, good_to, eldest_to, census_to, seats_to}
-use Rattle.roles.specs.Counted.{none_counted, is_eldest, counted}
+use Rattle.roles.specs.declared.census.Census.{Census}
+use Rattle.roles.specs.Passes.{Recorded, Numbers, good_to, eldest_to, census_to, seats_to, seats}
+use Rattle.roles.proofs.Found.{found_or, found_not, found_is, found_some}
+use Rattle.std.specs.Prelude.{Option, None, Some, MatchOption, IsTrue}
+use Rattle.std.specs.Option.{option_or}
+use Rattle.std.specs.Bool.{then_some}
 
 -- ---- good blocks
 
@@ -28,12 +32,13 @@ pub good_none : (c : Blocks) → 0 ≡ good_to c 0
 unfolding count_below
 good_none c = refl
 
-pub good_few : (c : Blocks) (j : ℕ) {n : ℕ} → n ≡ good_to c j → n ≤ j
-good_few c j e = omega (arith, count_below-most j (λ i. is_good (c i).state))
+-- 1 where the test passes
+pub byte_is : (b : Bool) → bool_byte b ≡ cond b 1 0
+byte_is true = refl
+byte_is false = refl
 
-pub good_turn : (c : Blocks) (j : ℕ) {x : Block} {g : Bool} {n m : ℕ} → x ≡ c j → n ≡ good_to c j → g ≡ is_good x.state → m ≡ cond g 1 0
-    → n + m ≡ good_to c (j + 1)
-good_turn c j same e f h = rw (h, f, same, e) (sym (count_below_more j (λ i. is_good (c i).state)))
+pub good_more : (c : Blocks) (j : ℕ) → good_to c j + cond (is_good (c j).state) 1 0 ≡ good_to c (j + 1)
+good_more c j = sym (count_below_more j (λ i. is_good (c i).state))
 
 -- ---- data numbers
 
@@ -42,36 +47,33 @@ pub record NumbersTo (s : Shape) (c : Blocks) (numbers : List ℕ) (j : ℕ) : T
   pub long : length numbers ≡ most
   pub at : (l : ℕ) → l < most → get_or numbers l 0 ≡ highest_below j (λ i. complete_number s (c i) l)
 
-pub numbers_none : (s : Shape) (c : Blocks) {numbers : List ℕ} → numbers ≡ replicate most 0 → NumbersTo s c numbers 0
+pub numbers_none : (s : Shape) (c : Blocks) → NumbersTo s c (replicate most 0) 0
 unfolding highest_below
-numbers_none s c e =
-    record { long = ap length e ∙ length-replicate {A = ℕ} most 0; at = λ l h. ap (λ (k : List ℕ). get_or k l 0) e ∙ get_or-replicate {A = ℕ} most l 0 0 h }
+numbers_none s c = record { long = length-replicate {A = ℕ} most 0; at = λ l h. get_or-replicate {A = ℕ} most l 0 0 h }
 
-module _ (s : Shape) (c : Blocks) (j : ℕ) {x : Block} (same : x ≡ c j) where
+module _ (s : Shape) (c : Blocks) {numbers : List ℕ} (j : ℕ) (t : NumbersTo s c numbers j) where
   abbrev numbers_at : ℕ → ℕ → ℕ
   numbers_at l i = complete_number s (c i) l
 
-  -- record j counts for its own logical block
-  own_number : {p : Bool} {n : ℕ} → p ≡ is_complete s x → n ≡ cond p x.number 0 → n ≡ complete_number s (c j) x.logical
-  own_number e f = rw (f, e, ← same, eq-eqb x.logical x.logical refl, and-true) refl
-
-  -- and for no other
-  other_number : (l : ℕ) → (l ≡ x.logical → ⊥) → complete_number s (c j) l ≡ 0
-  other_number l h = rw (← same, ne_eqb x.logical l (λ e. h (sym e)), and-false) refl
-
-  pub numbers_turn : {numbers : List ℕ} {p : Bool} {n m : ℕ} → x.logical < most → NumbersTo s c numbers j → p ≡ is_complete s x → n ≡ cond p x.number 0
-      → m ≡ max (get_or numbers x.logical 0) n → NumbersTo s c (set numbers x.logical m) (j + 1)
-  numbers_turn {numbers} {p} {n} {m} h t e f g =
+  -- record j, if it is complete, counts for its own logical block ..
+  pub numbers_more : {x : Block} → x ≡ c j → x.logical < most → is_complete s x ≡ true
+      → NumbersTo s c (set numbers x.logical (max (get_or numbers x.logical 0) x.number)) (j + 1)
+  numbers_more {x} same h e =
       record {
-        long = length-set numbers x.logical m ∙ t.long;
+        long = length-set numbers x.logical _ ∙ t.long;
         at = λ l k. elim (dec_eq l x.logical) [
           | inl q ↦
-              rw q (get_or-set_same numbers x.logical m 0 (omega (arith, t.long)) ∙ g
-              ∙ rw (t.at x.logical h, own_number e f) (sym (highest_below_more j (numbers_at x.logical))))
+              rw q (get_or-set_same numbers x.logical _ 0 (omega (arith, t.long))
+              ∙ rw (t.at x.logical h, highest_below_more j (numbers_at x.logical), ← same, e, eq-eqb x.logical x.logical refl) refl)
           | inr q ↦
-              get_or-set_other numbers x.logical l m 0 q ∙ t.at l k ∙ rw (highest_below_more j (numbers_at l), other_number l q, max-zero) refl
+              get_or-set_other numbers x.logical l _ 0 q ∙ t.at l k
+              ∙ rw (highest_below_more j (numbers_at l), ← same, ne_eqb x.logical l (λ e. q (sym e)), and-false, max-zero) refl
         ];
       }
+
+  -- .. and, if it is not, for none
+  pub numbers_same : is_complete s (c j) ≡ false → NumbersTo s c numbers (j + 1)
+  numbers_same e = record { long = t.long; at = λ l k. t.at l k ∙ rw (highest_below_more j (numbers_at l), e, max-zero) refl }
 
 pub numbers_all : {s : Shape} {c : Blocks} {numbers : List ℕ} {j : ℕ} → Recorded s c → j ≡ s.blocks → NumbersTo s c numbers j → Numbers s c numbers
 unfolding data_number
@@ -82,110 +84,80 @@ numbers_all {s} {c} r e t =
           (λ l h. t.at l h ∙ ap (λ (i : ℕ). highest_below i (λ k. complete_number s (c k) l)) e);
     }
 
-pub small_at : {s : Shape} {c : Blocks} → Recorded s c → (j : ℕ) {x : Block} → x ≡ c j → x.logical < most
-small_at r j e = rw e (r.small j)
-
--- the number of record j's logical block
-pub number_at : {s : Shape} {c : Blocks} {numbers : List ℕ} → Numbers s c numbers → (j : ℕ) {x : Block} → x ≡ c j
-    → (x.logical < most) × (get_or numbers x.logical 0 ≡ data_number s c (c j).logical)
-number_at {s} {c} {numbers} t j {x} e =
-    let h : x.logical < most = small_at t.recorded j e in (
-      h,
-      ap (λ (k : List ℕ). get_or k x.logical 0) t.numbers_are ∙ list_below_at most (data_number s c) x.logical 0 h
-          ∙ ap (λ (y : Block). data_number s c y.logical) e,
-    )
-
--- ---- the role of block j, by its record x and the number d of its logical block's data block
-
-module _ (s : Shape) (c : Blocks) (j : ℕ) {x : Block} {d : ℕ} {b : Bool} (same : x ≡ c j) (number : d ≡ data_number s c (c j).logical) where
-  pub is_data_by_lem : b ≡ is_data_by s x d → b ≡ is_data s c j
-  unfolding is_data
-  is_data_by_lem e = e ∙ ap (λ (y : Block). is_data_by s y d) same ∙ ap (is_data_by s (c j)) number
-
-  pub is_live_by_lem : b ≡ is_live_by s x d → b ≡ is_live s c j
-  unfolding is_live
-  is_live_by_lem e = e ∙ ap (λ (y : Block). is_live_by s y d) same ∙ ap (is_live_by s (c j)) number
-
-  pub is_obsolete_by_lem : b ≡ is_obsolete_by s x d → b ≡ is_obsolete s c j
-  unfolding is_obsolete is_data is_live
-  is_obsolete_by_lem e = e ∙ ap (λ (y : Block). is_obsolete_by s y d) same ∙ ap (is_obsolete_by s (c j)) number
+-- the number of a logical block's data block
+pub number_at : {s : Shape} {c : Blocks} {numbers : List ℕ} → Numbers s c numbers → (l : ℕ) → l < most → get_or numbers l 0 ≡ data_number s c l
+number_at {s} {c} t l h = ap (λ (k : List ℕ). get_or k l 0) t.numbers_are ∙ list_below_at most (data_number s c) l 0 h
 
 -- ---- the census
+
+cond_add : (n : ℕ) (b : Bool) → cond b (n + 1) n ≡ n + cond b 1 0
+cond_add n true = refl
+cond_add n false = omega arith
 
 eldest_choice : {A : Type 0} (p e l : Bool) (j b : A) → cond p (cond e j (cond l j b)) b ≡ cond (p && (e || l)) j b
 eldest_choice true true l j b = refl
 eldest_choice true false l j b = refl
 eldest_choice false e l j b = refl
 
-cond-number : (t : Bool) (c : Blocks) (i j : ℕ) → (c (cond t i j)).number ≡ cond t (c i).number (c j).number
-cond-number true c i j = refl
-cond-number false c i j = refl
+-- what is_none_or answers of it
+pub none_or_lower : (c : Blocks) (n b : ℕ) {o : Option ℕ} {r : Bool} {P : ℕ → Type 0} → o ≡ found b → MatchOption o (IsTrue r) P
+    → ((i : ℕ) → P i → r ≡ ltb n (c i).number) → r ≡ (is_none b || ltb n (c b).number)
+none_or_lower c n b {o = None} e h f = rw (eq-eqb b none (found_not (sym e))) h
+none_or_lower c n b {o = Some i} e h f =
+    let is = found_is (sym e) in
+    rw (ne_eqb b none is.1, is.0) (f i h)
 
 module _ (s : Shape) (c : Blocks) where
-  eldest_to_more : (j : ℕ)
-      → eldest_to s c (j + 1) ≡ cond (is_live s c j && (is_none (eldest_to s c j) || ltb (c j).number (c (eldest_to s c j)).number)) j (eldest_to s c j)
-  unfolding eldest_to
-  eldest_to_more j =
-      lowest_below_more j (is_live s c) (λ i. (c i).number)
-      ∙ eldest_choice (is_live s c j) (is_none (eldest_to s c j)) (ltb (c j).number (c (eldest_to s c j)).number) j (eldest_to s c j)
+  pub census_none : ◌≡◌ {A = Census} (record { sound = true; live = 0; recovered = true; highest = 0; free = None; eldest = None }) (census_to s c 0)
+  unfolding census_to eldest_to count_below all_below highest_below first_below lowest_below
+  census_none = refl
+
+  pub census_few : {t : Census} (j : ℕ) → t ≡ census_to s c j → t.live ≤ j
+  unfolding census_to
+  census_few j e = omega (arith, ap (λ (u : Census). u.live) e, count_below-most j (is_live s c))
+
+  pub census_eldest : {t : Census} (j : ℕ) → t ≡ census_to s c j → t.eldest ≡ found (eldest_to s c j)
+  unfolding census_to
+  census_eldest j e = ap (λ (u : Census). u.eldest) e
 
   -- with record j
-  pub census_to_more : (j : ℕ) → counted s (census_to s c j) j (c j) (data_number s c (c j).logical) ≡ census_to s c (j + 1)
-  unfolding counted census_to
-  census_to_more j =
-      let live : is_live_by s (c j) (data_number s c (c j).logical) ≡ is_live s c j = is_live_by_lem s c j {x = c j} refl refl refl in
-      let old : is_obsolete_by s (c j) (data_number s c (c j).logical) ≡ is_obsolete s c j = is_obsolete_by_lem s c j {x = c j} refl refl refl in
-      let a2 = all_below_more j (λ i. not (is_ill (c i).state)) in
-      let a3 = count_below_more j (is_live s c) in
-      let a4 = all_below_more j (λ i. not (is_obsolete s c i)) in
-      let a5 = highest_below_more j (λ i. (c i).number) in
-      let a6 = first_below_more j (λ i. is_free (c i).state) in
-      let a7 = eldest_to_more j in
-      let a8 : (c (eldest_to s c (j + 1))).number ≡ cond (is_live s c j && (is_none (eldest_to s c j) || ltb (c j).number (c (eldest_to s c j)).number))
-      (c j).number (c (eldest_to s c j)).number =
-      ap (λ (i : ℕ). (c i).number) a7
-      ∙ cond-number (is_live s c j && (is_none (eldest_to s c j) || ltb (c j).number (c (eldest_to s c j)).number)) c j (eldest_to s c j) in
-      cc
+  module _ (j : ℕ) {t : Census} (h : j < none) (e : t ≡ census_to s c j) where
+    eldest_more : (live lower : Bool) → live ≡ is_live s c j → lower ≡ (is_none (eldest_to s c j) || ltb (c j).number (c (eldest_to s c j)).number)
+        → cond (live && lower) (Some j) t.eldest ≡ found (eldest_to s c (j + 1))
+    unfolding eldest_to
+    eldest_more live lower f g =
+        rw (lowest_below_more j (is_live s c) (λ i. (c i).number), census_eldest j e, ← f, eldest_choice live _ _ j (eldest_to s c j), ← g) (go (live && lower))
+      where
+        go : (b : Bool) → cond b (Some j) (found (eldest_to s c j)) ≡ found (cond b j (eldest_to s c j))
+        go true = sym (found_some (λ n. omega arith))
+        go false = refl
 
-  pub census_to_few : (j : ℕ) {t : Census} → t ≡ census_to s c j → t.live ≤ j
-  unfolding census_to
-  census_to_few j e = omega (arith, ap (λ (u : Census). u.live) e, count_below-most j (is_live s c))
+    pub census_more : (live lower : Bool) {x : Block} {ill obsolete free : Bool} {highest : ℕ} {taken : Option ℕ} → x ≡ c j → ill ≡ is_ill x.state
+        → live ≡ is_live s c j → obsolete ≡ is_obsolete s c j → highest ≡ max t.highest x.number → free ≡ is_free x.state
+        → taken ≡ option_or t.free (then_some free j) → lower ≡ (is_none (eldest_to s c j) || ltb x.number (c (eldest_to s c j)).number)
+        → ◌≡◌ {A = Census} (record {
+          sound = t.sound && not ill;
+          live = cond live (t.live + 1) t.live;
+          recovered = t.recovered && not obsolete;
+          highest = highest;
+          free = taken;
+          eldest = cond (live && lower) (Some j) t.eldest;
+        }) (census_to s c (j + 1))
+    unfolding census_to
+    census_more live lower same a1 a2 a3 a4 a5 a6 a7 =
+        let b1 = all_below_more j (λ i. not (is_ill (c i).state)) in
+        let b2 = count_below_more j (is_live s c) in
+        let b3 = all_below_more j (λ i. not (is_obsolete s c i)) in
+        let b4 = highest_below_more j (λ i. (c i).number) in
+        let b5 = found_or (first_below j (λ i. is_free (c i).state)) j (is_free (c j).state) h in
+        let b6 = ap found (first_below_more j (λ i. is_free (c i).state)) in
+        let b7 = eldest_more live lower a2 (a7 ∙ ap (λ (y : Block). is_none (eldest_to s c j) || ltb y.number (c (eldest_to s c j)).number) same) in
+        let b8 = cond_add t.live live in
+        cc
 
-  pub census_to_none : (c none).number ≡ 0 → none_counted ≡ census_to s c 0
-  unfolding census_to eldest_to count_below all_below highest_below first_below lowest_below
-  census_to_none e = cc
+-- ---- the blocks of a logical block
 
-  -- ---- the blocks of a logical block
-
-  pub seats_to_is : (l j : ℕ) {b g : ℕ} → b ≡ first_below j (λ i. is_data s c i && eqb (c i).logical l)
-      → g ≡ first_below j (λ i. is_live s c i && eqb (c i).logical l)
-      → ◌≡◌ {A = Seats} (record { «data» = b; log = g }) (seats_to s c l j)
-  unfolding seats_to
-  seats_to_is l j e f = cc
-
--- of logical block l
-pub of_logical : (c : Blocks) (j l : ℕ) (p : ℕ → Bool) {x : Block} {b r : Bool} → x ≡ c j → b ≡ p j → r ≡ (b && eqb x.logical l)
-    → r ≡ (p j && eqb (c j).logical l)
-of_logical c j l p {x} {b} e f g = g ∙ ap (λ (y : Block). b && eqb y.logical l) e ∙ ap (λ (t : Bool). t && eqb (c j).logical l) f
-
--- what the calls of `count` say, put together
-pub counted_from : (s : Shape) (t : Census) (j : ℕ) (x : Block) (d : ℕ) {ill live old free eldest sound recovered : Bool} {logs highest place oldest low : ℕ}
-    → ill ≡ is_ill x.state → sound ≡ (t.sound && not ill)
-    → live ≡ is_live_by s x d → logs ≡ cond live 1 0 → old ≡ is_obsolete_by s x d → recovered ≡ (t.recovered && not old)
-    → highest ≡ max t.highest x.number → free ≡ is_free x.state → place ≡ or_none t.free (cond free j none)
-    → eldest ≡ is_eldest t x live → oldest ≡ cond eldest j t.eldest → low ≡ cond eldest x.number t.low
-    → ◌≡◌ {A = Census} (record {
-      sound = sound;
-      live = t.live + logs;
-      recovered = recovered;
-      highest = highest;
-      free = place;
-      eldest = oldest;
-      low = low;
-    }) (counted s t j x d)
-unfolding counted
-counted_from s t j x d a3 a4 a5 a6 a7 a8 a9 a10 a11 a12 a13 a14 = cc
-
-pub counted_turn : (s : Shape) (c : Blocks) (j : ℕ) {t r : Census} {x : Block} {d : ℕ} → x ≡ c j → d ≡ data_number s c (c j).logical
-    → t ≡ census_to s c j → r ≡ counted s t j x d → r ≡ census_to s c (j + 1)
-counted_turn s c j same number e f = f ∙ rw (same, e, number) (census_to_more s c j)
+pub seats_are : (s : Shape) (c : Blocks) (l : ℕ) {b g : Option ℕ} → b ≡ found (first_below s.blocks (λ j. is_data s c j && eqb (c j).logical l))
+    → g ≡ found (first_below s.blocks (λ j. is_live s c j && eqb (c j).logical l)) → ◌≡◌ {A = Seats} (record { «data» = b; log = g }) (seats s c l)
+unfolding seats_to
+seats_are s c l e f = cc

@@ -2,7 +2,7 @@
 use Rattle.std.specs.Prelude.{◌≡◌, ◌&&◌, not, List, ℕ, ◌<◌, ◌≤◌, ltb, eqb, ◌⊎◌}
 use Rattle.rules.specs.declared.shape.Shape.{Shape}
 use Rattle.rules.specs.declared.block.State.TheVariants.{Bad}
-use Rattle.rules.specs.Below.{all_below, count_below, highest_below, first_below, lowest_below, list_below, none}
+use Rattle.rules.specs.Below.{all_below, count_below, highest_below, first_below, lowest_below, list_below, none, found}
 use Rattle.rules.specs.Shape.{most}
 use Rattle.rules.specs.WellFormed.{Blocks, not_used, is_good, is_free, is_ill, is_used, data_number, is_data, is_live, is_obsolete}
 use Rattle.roles.specs.declared.census.Census.{Census}
@@ -44,21 +44,24 @@ census_to s c n =
       live = count_below n (is_live s c);
       recovered = all_below n (λ j. not (is_obsolete s c j));
       highest = highest_below n (λ j. (c j).number);
-      free = first_below n (λ j. is_free (c j).state);
-      eldest = eldest_to s c n;
-      low = (c (eldest_to s c n)).number;
+      free = found (first_below n (λ j. is_free (c j).state));
+      eldest = found (eldest_to s c n);
     }
 
 abbrev pub census : Shape → Blocks → Census
 census s c = census_to s c s.blocks
+
+-- t is theirs
+abbrev pub IsCensus : Shape → Blocks → Census → Type 0
+IsCensus s c t = t ≡ census s c
 
 -- ---- the blocks of one logical block
 
 unfoldable pub seats_to : Shape → Blocks → ℕ → ℕ → Seats
 seats_to s c l n =
     record {
-      «data» = first_below n (λ j. is_data s c j && eqb (c j).logical l);
-      log = first_below n (λ j. is_live s c j && eqb (c j).logical l);
+      «data» = found (first_below n (λ j. is_data s c j && eqb (c j).logical l));
+      log = found (first_below n (λ j. is_live s c j && eqb (c j).logical l));
     }
 
 abbrev pub seats : Shape → Blocks → ℕ → Seats

@@ -1,5 +1,5 @@
 -- Tests, counts, searches and lists over the numbers below n, each by the length of the prefix, as a loop goes.
-use Rattle.std.specs.Prelude.{Bool, true, ◌&&◌, cond, List, [], ◌∷◌, ◌++◌, ℕ, zero, suc, ◌+◌, max, ltb, eqb}
+use Rattle.std.specs.Prelude.{Bool, true, ◌&&◌, cond, Option, Some, None, List, [], ◌∷◌, ◌++◌, ℕ, zero, suc, ◌+◌, max, ltb, eqb}
 
 -- 65,535 stands for no block.
 abbrev pub none : ℕ
@@ -7,6 +7,10 @@ none = 65535
 
 abbrev pub is_none : ℕ → Bool
 is_none b = eqb b none
+
+-- a search's number as an option
+abbrev pub found : ℕ → Option ℕ
+found b = cond (is_none b) None (Some b)
 
 -- "if any": block b alone, or no block
 abbrev pub if_any : ℕ → List ℕ

@@ -1,8 +1,6 @@
 -- What the commands promise: the answer, and each buffer at exit, are the definitions' values of what came in.
-use Rattle.std.specs.Prelude.{◌≡◌, List, ℕ, ◌*◌, ◌<◌, length}
+use Rattle.std.specs.Prelude.{◌≡◌, Option, Some, None, List, ℕ, ◌*◌, ◌<◌, length}
 use Rattle.rules.specs.declared.shape.Shape.{Shape}
-use Rattle.rules.specs.declared.place.Place.{Place}
-use Rattle.rules.specs.declared.place.Place.TheVariants.{At, Nowhere}
 use Rattle.rules.specs.declared.answer.Answer.{Answer}
 use Rattle.rules.specs.Page.{Image}
 use Rattle.rules.specs.Facts.{Fits}
@@ -37,12 +35,12 @@ pub record ReadDone (s : Shape) (im : Image) (old : List ℕ) (a : ℕ) (r : Ans
   pub page_left : page ≡ page_left s im old a
 
 -- a page of the card, and so its 512 bytes are in the data image
-abbrev pub LentIn : Shape → Image → Place → Type 0
-LentIn s im (At p) = Fits s im × (p < s.blocks * s.pages)
-LentIn s im Nowhere = Unit {0}
+abbrev pub LentIn : Shape → Image → Option ℕ → Type 0
+LentIn s im (Some p) = Fits s im × (p < s.blocks * s.pages)
+LentIn s im None = Unit {0}
 
--- the flash page lent; or Nowhere
-pub record LentAt (s : Shape) (im : Image) (a : ℕ) (r : Place) : Type 0 where
+-- the flash page lent, or none
+pub record LentAt (s : Shape) (im : Image) (a : ℕ) (r : Option ℕ) : Type 0 where
   pub place : r ≡ lent_page s im a
   pub inside : LentIn s im r
 

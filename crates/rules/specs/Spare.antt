@@ -6,7 +6,10 @@
 --   5       block status, 255
 --   6-7     logical page, low byte first
 --   8-15    255
-use Rattle.std.specs.Prelude.{Bool, ◌&&◌, ◌||◌, List, ◌∷◌, ℕ, ◌+◌, ◌*◌, ◌/◌, ◌%◌, leb, eqb, drop, replicate}
+use Rattle.std.specs.Prelude.{◌≡◌, ◌≢◌, Bool, ◌&&◌, ◌||◌, cond, Result, MatchResult, List, ◌∷◌, ℕ, ◌+◌, ◌*◌, ◌/◌, ◌%◌, leb, eqb, drop, replicate}
+use Rattle.rules.specs.declared.kind.Kind.{Kind}
+use Rattle.rules.specs.declared.kind.Kind.TheVariants.{Log, Copy}
+use Rattle.rules.specs.declared.kind.UnknownKind.{UnknownKind}
 use Rattle.rules.specs.Bytes.{all255, byte}
 
 -- no sequence number is above this
@@ -18,6 +21,19 @@ log_kind = 240
 
 abbrev pub copy_kind : ℕ
 copy_kind = 15
+
+-- the byte of a kind
+abbrev pub kind_byte : Kind → ℕ
+kind_byte Log = log_kind
+kind_byte Copy = copy_kind
+
+-- the kind of a byte of the table: one of the two
+abbrev pub kind_for : ℕ → Kind
+kind_for b = cond (eqb b log_kind) Log Copy
+
+-- what byte b is read as: the kind that it stands for, or an error where it stands for none
+abbrev pub Reads : ℕ → Result Kind UnknownKind → Type 0
+Reads b r = MatchResult r (λ k. kind_byte k ≡ b) (λ e. (e.0 ≡ b) × (b ≢ log_kind) × (b ≢ copy_kind))
 
 abbrev pub number_in : List ℕ → ℕ
 number_in t = byte t 0 + byte t 1 * 256 + byte t 2 * 65536 + byte t 3 * 16777216

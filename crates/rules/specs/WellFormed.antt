@@ -1,5 +1,5 @@
 -- A well-formed image: W1 to W7, the record of a block, and the roles of used blocks.
-use Rattle.std.specs.Prelude.{Bool, true, false, ◌&&◌, ◌||◌, not, cond, List, ℕ, leb, ltb, eqb, get_or}
+use Rattle.std.specs.Prelude.{Bool, true, false, ◌&&◌, ◌||◌, not, cond, None, List, ℕ, leb, ltb, eqb, get_or}
 use Rattle.rules.specs.declared.shape.Shape.{Shape}
 use Rattle.rules.specs.declared.page.Page.{Page}
 use Rattle.rules.specs.declared.page.Page.TheVariants.{Erased}
@@ -7,9 +7,9 @@ use Rattle.rules.specs.declared.block.State.{State}
 use Rattle.rules.specs.declared.block.State.TheVariants.{Bad, Free, Ill, Used}
 use Rattle.rules.specs.declared.block.Block.{Block}
 use Rattle.rules.specs.Below.{all_below, count_below, highest_below, first_below, list_below}
-use Rattle.rules.specs.Spare.{log_kind, copy_kind, status_in}
+use Rattle.rules.specs.Spare.{status_in}
 use Rattle.rules.specs.Shape.{page_no, block_of, offset_of, in_range}
-use Rattle.rules.specs.Page.{Image, page_spare, page_at, is_erased, is_entry, number_of, kind_of, address_of}
+use Rattle.rules.specs.Page.{Image, page_spare, page_at, is_erased, is_entry, number_of, kind_of, address_of, is_log, is_copy, same_kind}
 
 -- ---- W1 to W4, at page i of a used block whose pages are g
 --
@@ -31,7 +31,7 @@ W1 s g i = is_erased (g i) || all_below i (λ j. not (is_erased (g j)))
 
 -- They have the bytes of the spare table, one kind and one sequence number.
 unfoldable pub W2 : Rule
-W2 s g i = is_erased (g i) || (is_entry (g i) && eqb (kind_of (g i)) (kind_of (naming g)) && eqb (number_of (g i)) (number_of (naming g)))
+W2 s g i = is_erased (g i) || (is_entry (g i) && same_kind (kind_of (g i)) (kind_of (naming g)) && eqb (number_of (g i)) (number_of (naming g)))
 
 -- Their addresses are in range and in one logical block.
 unfoldable pub W3 : Rule
@@ -39,7 +39,7 @@ W3 s g i = is_erased (g i) || (in_range s (address_of (g i)) && eqb (block_of s 
 
 -- In a copy block, page i has offset i.
 unfoldable pub W4 : Rule
-W4 s g i = is_erased (g i) || not (eqb (kind_of (naming g)) copy_kind) || eqb (offset_of s (address_of (g i))) i
+W4 s g i = is_erased (g i) || not (is_copy (kind_of (naming g))) || eqb (offset_of s (address_of (g i))) i
 
 -- of every page of the block
 unfoldable pub W1to4 : Shape → Pages → Bool
@@ -78,7 +78,7 @@ is_used Used = true
 -- ---- the record of a block
 
 abbrev pub not_used : State → Block
-not_used st = record { state = st; kind = 0; number = 0; logical = 0; filled = 0; ordered = false }
+not_used st = record { state = st; kind = None; number = 0; logical = 0; filled = 0; ordered = false }
 
 abbrev pub all_erased : Shape → Pages → Bool
 all_erased s g = all_below s.pages (λ i. is_erased (g i))
@@ -172,7 +172,7 @@ is_data_by s x d = is_complete s x && eqb x.number d
 
 -- A log block that is not complete and has a higher number than the data block (or any number, if there is none) is live.
 abbrev pub is_live_by : Shape → Block → ℕ → Bool
-is_live_by s x d = is_used x.state && eqb x.kind log_kind && not (is_complete s x) && ltb d x.number
+is_live_by s x d = is_used x.state && is_log x.kind && not (is_complete s x) && ltb d x.number
 
 -- Used blocks that are neither data block nor live are obsolete.
 abbrev pub is_obsolete_by : Shape → Block → ℕ → Bool

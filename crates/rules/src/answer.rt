@@ -1,13 +1,16 @@
 ghost use Rattle.std.specs.Prelude.{◌≡◌};
-ghost use Rattle.rules.specs.Replies.{number, programs_of, erases_of};
+ghost use Rattle.rules.specs.Replies.{number, programs_of, erases_of, answer_of};
 
-// What the card replies.
+use super::refusal::Refusal;
+use std::fmt;
+
+// What the card replies. A cut is no error beside the refusal: the steps done are done, and counted as in the first case.
 #[derive(Clone, Copy)]
 pub enum Answer {
     // all done
     Done { programs: usize, erases: usize },
     // refused, with nothing changed
-    Refused(u8),
+    Refused(Refusal),
     // cut short: the steps done are the first of the list
     Cut { programs: usize, erases: usize },
 }
@@ -17,15 +20,9 @@ impl Answer {
         ensures { result ≡ number self }
     {
         match self {
-            Answer::Done {
-                programs: _,
-                erases: _,
-            } => 0,
-            Answer::Refused(n) => n,
-            Answer::Cut {
-                programs: _,
-                erases: _,
-            } => 8,
+            Answer::Done { .. } => 0,
+            Answer::Refused(refusal) => u8::from(refusal),
+            Answer::Cut { .. } => 8,
         }
     }
 
@@ -33,15 +30,8 @@ impl Answer {
         ensures { result ≡ programs_of self }
     {
         match self {
-            Answer::Done {
-                programs,
-                erases: _,
-            } => programs,
+            Answer::Done { programs, .. } | Answer::Cut { programs, .. } => programs,
             Answer::Refused(_) => 0,
-            Answer::Cut {
-                programs,
-                erases: _,
-            } => programs,
         }
     }
 
@@ -49,15 +39,27 @@ impl Answer {
         ensures { result ≡ erases_of self }
     {
         match self {
-            Answer::Done {
-                programs: _,
-                erases,
-            } => erases,
+            Answer::Done { erases, .. } | Answer::Cut { erases, .. } => erases,
             Answer::Refused(_) => 0,
-            Answer::Cut {
-                programs: _,
-                erases,
-            } => erases,
+        }
+    }
+}
+
+// Its number, its programs and its erases.
+impl fmt::Display for Answer {
+    fn fmt<W: fmt::Write>(&self, f: &mut fmt::Formatter<W>) -> fmt::Result {
+        write!(f, "{} {} {}", self.number(), self.programs(), self.erases())
+    }
+}
+
+// A command that is refused answers so.
+impl From<Result<Answer, Refusal>> for Answer {
+    ghost from_gives = { λ tried answer. answer ≡ answer_of tried };
+
+    fn from(tried: Result<Answer, Refusal>) -> Answer {
+        match tried {
+            Ok(answer) => answer,
+            Err(refusal) => Answer::Refused(refusal),
         }
     }
 }

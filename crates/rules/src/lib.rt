@@ -4,7 +4,7 @@
 
 pub mod answer;
 pub mod block;
+pub mod kind;
 pub mod page;
-pub mod place;
+pub mod refusal;
 pub mod shape;
-pub mod test;

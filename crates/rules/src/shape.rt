@@ -1,11 +1,17 @@
-ghost use Rattle.std.specs.Prelude.{◌≡◌, ◌*◌, ◌/◌, ◌<◌, ltb};
+ghost use Rattle.std.specs.Prelude.{◌≡◌, ◌*◌, ◌/◌, ◌<◌, ◌≤◌, ltb};
 ghost use Rattle.rules.specs.Shape.{shape_of, within_limits, page_no, in_range, good_needed};
 ghost use Rattle.rules.specs.Facts.{Limits};
+
+// The bytes of a page: of data, and spare.
+pub const DATA: usize = 512;
+
+pub const SPARE: usize = 16;
 
 // The most blocks that a card may have; arrays of records have room for so many.
 pub const MOST: usize = 64;
 
-// The shape of a card is four numbers.
+// The shape of a card is four numbers, within the limits or not: document 01 names this form, by value and with methods. So a function that needs the limits asks for them;
+// where a lent image comes with the shape, a type says it once (`Chip`, `Run`).
 #[derive(Clone, Copy)]
 pub struct Shape {
     // P, pages per block
@@ -22,10 +28,7 @@ pub struct Shape {
 fn whole_blocks(pages: usize, bytes: usize) -> usize
     ensures { result ≡ bytes / 512 / pages }
 {
-    if pages == 0 {
-        return 0;
-    }
-    bytes / 512 / pages
+    (bytes / 512).checked_div(pages).unwrap_or(0)
 }
 
 impl Shape {
@@ -47,28 +50,14 @@ impl Shape {
     {
         let pages = self.pages;
         let blocks = self.blocks;
-        if pages < 2 {
-            return false;
-        }
-        if pages > 32 {
-            return false;
-        }
-        if blocks < 3 {
-            return false;
-        }
-        if blocks > MOST {
-            return false;
-        }
-        if self.logical < 1 {
-            return false;
-        }
-        if self.logs < 1 {
-            return false;
-        }
-        if bytes != blocks * pages * 512 {
-            return false;
-        }
-        spares == blocks * pages * 16
+        // Each test of the definition, in its order. With ranges, (2..=32).contains(&pages), it was tried, and the proof did not close.
+        let limits = (pages >= 2)
+            & (pages <= 32)
+            & (blocks >= 3)
+            & (blocks <= MOST)
+            & (self.logical >= 1)
+            & (self.logs >= 1);
+        limits && (bytes == blocks * pages * 512) & (spares == blocks * pages * 16)
     }
 
     // Page i of block b, numbered through the chip.
@@ -76,63 +65,36 @@ impl Shape {
         requires { Limits self × (b < self.blocks) × (i < self.pages) }
         ensures { (result ≡ page_no self b i) × (result < self.blocks * self.pages) }
     {
-        let pages = self.pages;
-        b * pages + i
+        b * self.pages + i
     }
 
-    // The byte of the data image where block b starts.
-    pub fn block_bytes(self, b: usize) -> usize
-        requires { Limits self × (b < self.blocks) }
-        ensures { result ≡ b * self.pages * 512 }
+    // The byte where block b starts, in an image of so many bytes for each page.
+    pub fn block_start<const EACH: usize>(self, b: usize) -> usize
+        requires { Limits self × (b < self.blocks) × (EACH ≤ 512) }
+        ensures { result ≡ b * self.pages * EACH }
     {
-        let pages = self.pages;
-        b * pages * 512
+        b * self.pages * EACH
     }
 
-    // The byte of the spare image where block b starts.
-    pub fn block_spare(self, b: usize) -> usize
-        requires { Limits self × (b < self.blocks) }
-        ensures { result ≡ b * self.pages * 16 }
+    // The byte where page p starts, in an image of so many bytes for each page.
+    pub fn page_start<const EACH: usize>(self, p: usize) -> usize
+        requires { Limits self × (p < self.blocks * self.pages) × (EACH ≤ 512) }
+        ensures { result ≡ p * EACH }
     {
-        let pages = self.pages;
-        b * pages * 16
-    }
-
-    // The byte of the data image where page p starts.
-    pub fn page_bytes(self, p: usize) -> usize
-        requires { Limits self × (p < self.blocks * self.pages) }
-        ensures { result ≡ p * 512 }
-    {
-        p * 512
-    }
-
-    // The byte of the spare image where page p starts.
-    pub fn page_spare(self, p: usize) -> usize
-        requires { Limits self × (p < self.blocks * self.pages) }
-        ensures { result ≡ p * 16 }
-    {
-        p * 16
+        p * EACH
     }
 
     // Whether a is 0 to L x P - 1, for any L and P: the product itself might not fit.
     pub fn in_range(self, a: usize) -> bool
         ensures { result ≡ in_range self a }
     {
-        let pages = self.pages;
-        if pages == 0 {
-            return false;
-        }
-        a / pages < self.logical
+        self.pages != 0 && a / self.pages < self.logical
     }
 
     // Whether so many good blocks are fewer than L + K + 1, for any L and K: the sum itself might not fit.
     pub fn short_of(self, good: usize) -> bool
         ensures { result ≡ ltb good (good_needed self) }
     {
-        let logical = self.logical;
-        if good < logical {
-            return true;
-        }
-        good - logical <= self.logs
+        good < self.logical || good - self.logical <= self.logs
     }
 }

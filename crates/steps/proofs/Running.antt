@@ -1,27 +1,24 @@
 -- Laws of steps done under a budget: the run with a budget is the first `cut` steps.
 use mathlib.Core.Path.{◌≡◌, refl, sym, ap, ◌∙◌, subst}
-use mathlib.Core.Logic.{inl, inr}
-use mathlib.Core.Bool.{Bool, true, false, not, ◌||◌, or-true, or-false}
-use mathlib.Core.List.{List, [], ◌∷◌, ◌++◌}
-use Prim.Native.Nat.{ℕ, zero, suc, ◌+◌, ◌-◌, ◌≤◌}
+use mathlib.Core.Bool.{Bool, true, false, cond, ◌||◌, or-true, or-false}
+use mathlib.Core.List.{List, [], ◌∷◌, ◌++◌, map, map-append, append-nil}
+use native.Mathlib.Numerals.{add-one}
+use Rattle.rules.specs.Below.{pick_below}
+use Prim.Native.Nat.{ℕ, zero, suc, ◌+◌, ◌-◌}
 use native.Mathlib.Omega.{arith}
 use lib.Dec.{eqb, ltb, leb-suc-zero, leb-suc-suc}
 use lib.ListN.{length, take}
 use lib.Seq.{take-nil}
-use borrow.Author.Tests.{ne_eqb, lt-ltb, not-true, not-false}
+use borrow.Author.Tests.{ne_eqb, lt-ltb}
 use Rattle.rules.specs.declared.shape.Shape.{Shape}
 use Rattle.rules.specs.Page.{Image}
 use Rattle.rules.specs.Steps.{Step, program, erase, step_done, steps_done, programs, erases}
-use Rattle.rules.specs.Facts.{image_of, Left}
-use Rattle.laws.proofs.Tests.{false_is, dec_eq, eq→eqb}
+use Rattle.rules.specs.Facts.{image_of, Fits, Left}
 use Rattle.laws.proofs.Pages.{left_one}
 use Rattle.steps.specs.declared.budget.Budget.{Budget}
-use Rattle.steps.specs.Runs.{stopped, spent, Sane, Progress, progress, do_one, run, Ran, erase_if}
-
--- ---- the budget
-
-pub unspent : (left : ℕ) → eqb left 0 ≡ false → 1 ≤ left
-unspent left e = elim (dec_eq left 0) [ inl z ↦ absurd (false_is (eqb left 0) e (eq→eqb left 0 z)) | inr n ↦ omega arith ]
+use Rattle.steps.specs.Runs.{stopped, spent, Sane, Progress, progress, do_one, run, Ran}
+use Rattle.steps.specs.declared.run.Run.{Run}
+use Rattle.steps.specs.Doing.{image_in, Same, Stepped, Does, erases_to}
 
 -- ---- what a function leaves
 
@@ -45,13 +42,6 @@ pub ran_same : {s : Shape} {xs ys : List Step} {st : Progress} {bytes spare : Li
     → Ran s ys st bytes spare t
 ran_same {s} {xs} {ys} {st} {bytes} {spare} {t} e h = subst (λ (zs : List Step). Ran s zs st bytes spare t) e h
 
--- the erase of block b, where the test passes and where it does not
-pub erase_passes : (b : ℕ) (passes : Bool) → not passes ≡ false → erase b ∷ [] ≡ erase_if passes b
-erase_passes b passes e = sym (ap (λ (t : Bool). erase_if t b) (not-false passes e))
-
-pub erase_fails : (b : ℕ) (passes : Bool) → not passes ≡ true → [] ≡ erase_if passes b
-erase_fails b passes e = sym (ap (λ (t : Bool). erase_if t b) (not-true passes e))
-
 run-append : (s : Shape) (xs ys : List Step) (st : Progress) → run s (xs ++ ys) st ≡ run s ys (run s xs st)
 unfolding run
 run-append s [] ys st = refl
@@ -71,6 +61,63 @@ ran_then {s} {xs} {ys} {st} {bytes} {spare} {bytes'} {spare'} {t} h k =
       budget = k.budget ∙ ap (λ (u : Progress). u.budget) e;
       sane = k.sane;
     }
+
+-- ---- the same of runs
+
+pub same_still : (a : Run) → Same a a
+same_still a = record { bytes_same = refl; spare_same = refl; shape_same = refl }
+
+pub same_then : {a b c : Run} → Same a b → Same b c → Same a c
+same_then h k = record { bytes_same = k.bytes_same ∙ h.bytes_same; spare_same = k.spare_same ∙ h.spare_same; shape_same = k.shape_same ∙ h.shape_same }
+
+pub does_none : (a : Run) → Does (λ _. []) a a
+does_none a = record { ran = ran_none a.sane; same = same_still a }
+
+pub does_same : {f g : Image → List Step} {a b : Run} → f (image_in a) ≡ g (image_in a) → Does f a b → Does g a b
+does_same e h = record { ran = ran_same e h.ran; same = h.same }
+
+-- one step, with the run as it is counted
+module _ {x : Step} {a : Run} {r : Budget} where
+  pub does_stop : {f : Fits a.shape (image_in a)} {g : Sane r} → true ≡ eqb a.budget.left 0 → (r ≡ stopped a.budget) × Sane r
+      → Does (λ _. x ∷ []) a (record { bytes = a.bytes; spare = a.spare; shape = a.shape; budget = r; fits = f; sane = g })
+  does_stop e h = record { ran = ran_stop (sym e) h; same = record { bytes_same = refl; spare_same = refl; shape_same = refl } }
+
+  pub does_step : {b : Run} {f : Fits b.shape (image_in b)} {g : Sane r} → false ≡ eqb a.budget.left 0 → Stepped x a b → (r ≡ spent x b.budget) × Sane r
+      → Does (λ _. x ∷ []) a (record { bytes = b.bytes; spare = b.spare; shape = b.shape; budget = r; fits = f; sane = g })
+  does_step {b} e h k =
+      record {
+        ran = ran_step refl (sym e) h.image (k.0 ∙ ap (spent x) h.budget_same, k.1);
+        same = record { bytes_same = h.same.bytes_same; spare_same = h.same.spare_same; shape_same = h.same.shape_same };
+      }
+
+-- one list of steps, then another, of the image by then
+pub does_then : {f g : Image → List Step} {a b c : Run} → Does f a b → Does g b c → Does (λ im. f im ++ g (image_in b)) a c
+does_then {f} {g} {a} {b} {c} h k =
+    record {
+      ran =
+          ran_then h.ran
+          (subst (λ (s : Shape). Ran s (g (image_in b)) (progress (image_in b) b.budget) c.bytes.now c.spare.now c.budget) h.same.shape_same k.ran);
+      same = same_then h.same k.same;
+    }
+
+-- ---- blocks erased, ascending: one turn of a loop
+
+module _ (p : ℕ → Bool) where
+  pub erases_none : (a : Run) → Does (λ _. erases_to p 0) a a
+  unfolding pick_below
+  erases_none a = does_none a
+
+  erases_next : (j : ℕ) → erases_to p j ++ map erase (cond (p j) (j ∷ []) []) ≡ erases_to p (j + 1)
+  unfolding pick_below
+  erases_next j = sym (ap (erases_to p) (add-one j) ∙ map-append erase (pick_below j p) (cond (p j) (j ∷ []) []))
+
+  pub erases_more : (j : ℕ) {a b c : Run} → true ≡ p j → Does (λ _. erases_to p j) a b → Does (λ _. erase j ∷ []) b c → Does (λ _. erases_to p (j + 1)) a c
+  erases_more j e h k =
+      does_same (ap (λ (t : Bool). erases_to p j ++ map erase (cond t (j ∷ []) [])) e ∙ erases_next j) (does_then h k)
+
+  pub erases_past : (j : ℕ) {a b : Run} → false ≡ p j → Does (λ _. erases_to p j) a b → Does (λ _. erases_to p (j + 1)) a b
+  erases_past j e h =
+      does_same (sym (append-nil (erases_to p j)) ∙ ap (λ (t : Bool). erases_to p j ++ map erase (cond t (j ∷ []) [])) e ∙ erases_next j) h
 
 -- no second image and no second budget
 pub ran_one : {s : Shape} {xs : List Step} {st : Progress} {bytes bytes' spare spare' : List ℕ} {t t' : Budget} → Ran s xs st bytes spare t

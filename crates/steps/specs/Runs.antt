@@ -1,9 +1,9 @@
 -- Steps done one after the other, each counted against the cut number.
-use Rattle.std.specs.Prelude.{◌≡◌, Bool, true, false, cond, List, [], ◌∷◌, map, ℕ, ◌+◌, ◌-◌, ◌<◌, eqb}
+use Rattle.std.specs.Prelude.{◌≡◌, true, false, cond, List, [], ◌∷◌, ℕ, ◌+◌, ◌-◌, ◌<◌, eqb}
 use Rattle.rules.specs.declared.shape.Shape.{Shape}
 use Rattle.rules.specs.Page.{Image}
 use Rattle.rules.specs.Steps.{Step, program, erase, step_done}
-use Rattle.rules.specs.Facts.{image_of, Left}
+use Rattle.rules.specs.Facts.{Left}
 use Rattle.steps.specs.declared.budget.Budget.{Budget}
 
 -- ---- the budget
@@ -46,11 +46,3 @@ pub record Ran (s : Shape) (xs : List Step) (st : Progress) (bytes spare : List 
   pub image : Left (run s xs st).image bytes spare
   pub budget : t ≡ (run s xs st).budget
   pub sane : Sane t
-
--- the same of the two slices: the steps f of the image at entry, under budget t
-abbrev pub Does : Shape → (Image → List Step) → Budget → List ℕ → List ℕ → List ℕ → List ℕ → Budget → Type 0
-Does s f t bytes spare bytes' spare' r = Ran s (f (image_of bytes spare)) (progress (image_of bytes spare) t) bytes' spare' r
-
--- the erase of block b, if the test passes
-abbrev pub erase_if : Bool → ℕ → List Step
-erase_if passes b = map erase (cond passes (b ∷ []) [])

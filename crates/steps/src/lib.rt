@@ -3,3 +3,4 @@
 #![tactic(auto)]
 
 pub mod budget;
+pub mod run;

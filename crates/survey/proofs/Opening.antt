@@ -1,30 +1,33 @@
 -- Laws of the opening.
-use mathlib.Core.Path.{◌≡◌, refl, sym, ap, ◌∙◌, subst}
+use mathlib.Core.Path.{◌≡◌, refl, sym, ap, subst, ◌∙◌}
 use mathlib.Core.Logic.{inl, inr}
-use mathlib.Core.Bool.{Bool, true, false, ◌&&◌, cond}
+use mathlib.Core.Bool.{Bool, true, false}
 use mathlib.Core.List.{List}
-use Prim.Native.Nat.{ℕ, ◌≤◌, ◌<◌}
+use Prim.Native.Nat.{◌<◌}
 use native.Mathlib.Omega.{arith}
-use lib.ListN.{length, replicate}
-use lib.Dec.{leb}
-use borrow.Author.Tests.{ltb-false, lt-ltb, le-leb}
+use lib.ListN.{length}
+use borrow.Author.Tests.{ltb-false}
+use Rattle.std.specs.Prelude.{Option, Some, None, Result, Ok, Err}
+use Rattle.std.proofs.lemmas.Option.{none-some, same_Some}
 use Rattle.rules.specs.declared.shape.Shape.{Shape}
+use Rattle.rules.specs.declared.block.Block.{Block}
+use Rattle.rules.specs.declared.refusal.Refusal.{Refusal}
+use Rattle.rules.specs.declared.refusal.Refusal.TheVariants.{OutsideLimits, WrongLength, OutOfRange, TooFewGood, IllFormed, Unrecovered, OutOfNumbers}
 use Rattle.rules.specs.Shape.{most, good_needed}
 use Rattle.rules.specs.Page.{Image}
 use Rattle.rules.specs.Facts.{Fits}
-use Rattle.rules.specs.WellFormed.{Blocks, is_good, blocks_of}
+use Rattle.rules.specs.WellFormed.{Blocks, is_good, blocks_of, blocks_in}
 use Rattle.rules.specs.Replies.{good_blocks, too_few_good}
 use Rattle.laws.proofs.Tests.{lt_or_le}
-use Rattle.laws.proofs.First.{first_by, unless_no, unless_yes, unless-none}
+use Rattle.laws.proofs.First.{first_by, unless_some, unless_none, neither_refuses}
 use Rattle.laws.proofs.Below.{count_below-most}
 use Rattle.laws.proofs.Records.{blocks_of_at, blocks_of_outside, block_at_number, block_at_logical, blocks_of_records}
-use Rattle.words.specs.Words.{records_in, words_of}
-use Rattle.roles.specs.Counted.{none_counted}
-use Rattle.roles.specs.Passes.{Recorded, Numbers, numbers_of, census}
+use Rattle.roles.specs.declared.census.Census.{Census}
+use Rattle.roles.specs.declared.records.Room.{Room}
+use Rattle.roles.specs.Passes.{Recorded, Numbers, numbers_of}
 use Rattle.refusals.specs.Orders.{call_tests, call_refusal, card_refusal, open_refusal}
-use Rattle.refusals.proofs.Refusing.{Accepted, call_accepts, card_accepts, open_order}
-use Rattle.survey.specs.declared.Survey.{Survey}
-use Rattle.survey.specs.Opened.{unless_to, Opened}
+use Rattle.refusals.proofs.Refusing.{call_accepts, card_accepts, open_order}
+use Rattle.survey.specs.Opened.{Holds, Surveyed, Left, Opened}
 
 -- ---- the records of a card that has the good blocks it needs
 
@@ -58,72 +61,90 @@ module _ (s : Shape) (im : Image) (w : Fits s im) (enough : too_few_good s (bloc
         ];
       }
 
--- ---- what is left, by the refusal
-
-before : {A : Type 0} (k n : ℕ) (x y : A) → 0 < n → n ≤ k → unless_to k n x y ≡ x
-before k n x y h m = ap (λ (b : Bool). cond (b && leb n k) x y) (lt-ltb 0 n h) ∙ ap (λ (b : Bool). cond b x y) (le-leb n k m)
-
--- by the records, once it is not by the call
-pub by_card : (s : Shape) (im : Image) (sized ranged : Bool) {n : ℕ} → n ≡ call_refusal s (length im.bytes) (length im.spare) sized ranged
-    → n ≡ 0 → Accepted s (length im.bytes) (length im.spare) sized ranged × (open_refusal s im sized ranged ≡ card_refusal s (blocks_of s im))
-by_card s im sized ranged {n} e z = (
-  call_accepts s (length im.bytes) (length im.spare) sized ranged (sym e ∙ z),
-  open_order s im sized ranged e ∙ unless_yes n n (card_refusal s (blocks_of s im)) z,
-)
-
-module _ (s : Shape) (im : Image) (sized ranged : Bool) {list numbers : List ℕ} {v : Survey} where
-  pub opened_at : (n : ℕ) → v.refusal ≡ n → open_refusal s im sized ranged ≡ n → list ≡ unless_to 3 n (replicate most 0) (words_of (blocks_of s im))
-      → records_in list ≡ unless_to 3 n (records_in (replicate most 0)) (blocks_of s im)
-      → numbers ≡ unless_to 4 n (replicate most 0) (numbers_of s (blocks_of s im)) → v.census ≡ unless_to 5 n none_counted (census s (blocks_of s im))
-      → Opened s im sized ranged list numbers v
-  opened_at n e f g b h k =
-      record { refusal_is = e ∙ sym f; words_are = rw e g; records_are = rw e b; numbers_are = rw e h; census_is = rw e k }
-
-  -- refused by the call
-  pub opened_first : {n : ℕ} → n ≡ call_refusal s (length im.bytes) (length im.spare) sized ranged → (n ≡ 0 → ⊥) → v.refusal ≡ n
-      → list ≡ replicate most 0 → numbers ≡ replicate most 0 → v.census ≡ none_counted → Opened s im sized ranged list numbers v
-  opened_first {n} e f g p q r =
-      let few : call_refusal s (length im.bytes) (length im.spare) sized ranged ≤ 3 =
-      first_by (λ (k : ℕ). k ≤ 3) (call_tests s (length im.bytes) (length im.spare) sized ranged)
-      ((λ t. omega arith), ((λ t. omega arith), ((λ t. omega arith), tt))) (omega arith) in
-      let low : 0 < n = omega (arith, f) in
-      opened_at n g (open_order s im sized ranged e ∙ unless_no n n (card_refusal s (blocks_of s im)) f) (p ∙ sym (before 3 n _ _ low (omega arith)))
-      (ap records_in p ∙ sym (before 3 n _ _ low (omega arith))) (q ∙ sym (before 4 n _ _ low (omega arith)))
-      (r ∙ sym (before 5 n _ _ low (omega arith)))
-
 -- ---- what it says
 
--- the records and numbers of a card that is not refused: what every later function asks for
-pub record Surveyed (s : Shape) (im : Image) (sized ranged : Bool) (list numbers : List ℕ) (v : Survey) : Type 0 where
+-- by the records, once it is not by the call
+pub by_card : (s : Shape) (im : Image) (sized ranged : Bool) → call_refusal s (length im.bytes) (length im.spare) sized ranged ≡ None
+    → open_refusal s im sized ranged ≡ card_refusal s (blocks_of s im)
+by_card s im sized ranged e = open_order s im sized ranged refl ∙ unless_none Some (card_refusal s (blocks_of s im)) e
+
+-- by the call
+pub by_call : (s : Shape) (im : Image) (sized ranged : Bool) {r : Refusal} → call_refusal s (length im.bytes) (length im.spare) sized ranged ≡ Some r
+    → open_refusal s im sized ranged ≡ Some r
+by_call s im sized ranged e = open_order s im sized ranged refl ∙ unless_some Some (card_refusal s (blocks_of s im)) e
+
+-- a card that is not refused
+pub record Accepts (s : Shape) (im : Image) (sized ranged : Bool) : Type 0 where
   pub within : Fits s im
   pub lengths : sized ≡ true
   pub in_range : ranged ≡ true
-  pub records : records_in list ≡ blocks_of s im
-  pub numbers_are : Numbers s (records_in list) numbers
-  pub census_is : v.census ≡ census s (records_in list)
-  pub accepted : card_refusal s (blocks_of s im) ≡ 0
+  pub recorded : Recorded s (blocks_of s im)
+  pub accepted : card_refusal s (blocks_of s im) ≡ None
 
-pub opened_surveyed : {s : Shape} {im : Image} {sized ranged : Bool} {list numbers : List ℕ} {v : Survey} → Opened s im sized ranged list numbers v
-    → v.refusal ≡ 0 → Surveyed s im sized ranged list numbers v
-opened_surveyed {s} {im} {sized} {ranged} {list} {numbers} o z =
-    let none = unless-none _ _ (sym (open_order s im sized ranged refl) ∙ sym o.refusal_is ∙ z) in
+pub opened_accepts : (s : Shape) (im : Image) (sized ranged : Bool) → open_refusal s im sized ranged ≡ None → Accepts s im sized ranged
+opened_accepts s im sized ranged e =
+    let none = neither_refuses _ _ (sym (open_order s im sized ranged refl) ∙ e) in
     let ok = call_accepts s (length im.bytes) (length im.spare) sized ranged none.0 in
-    let records : records_in list ≡ blocks_of s im = o.records_are ∙ ap (λ (m : ℕ). unless_to 3 m (records_in (replicate most 0)) (blocks_of s im)) z in
     record {
       within = ok.within;
       lengths = ok.lengths;
       in_range = ok.in_range;
-      records = records;
-      numbers_are = subst (λ (c : Blocks). Numbers s c numbers) (sym records) (record {
-        recorded = recorded s im ok.within (card_accepts s (blocks_of s im) none.1).0;
-        numbers_are = o.numbers_are ∙ ap (λ (m : ℕ). unless_to 4 m (replicate most 0) (numbers_of s (blocks_of s im))) z;
-      });
-      census_is = o.census_is ∙ ap (λ (m : ℕ). unless_to 5 m none_counted (census s (blocks_of s im))) z ∙ ap (census s) (sym records);
+      recorded = recorded s im ok.within (card_accepts s (blocks_of s im) none.1).0;
       accepted = none.1;
     }
 
--- There is one answer, and one content of each array.
-pub opened_one : {s : Shape} {im : Image} {sized ranged : Bool} {list list' numbers numbers' : List ℕ} {v v' : Survey}
-    → Opened s im sized ranged list numbers v → Opened s im sized ranged list' numbers' v'
-    → (v.refusal ≡ v'.refusal) × (v.census ≡ v'.census) × (list ≡ list') × (numbers ≡ numbers')
-opened_one o p = (cc, cc, cc, cc)
+-- What is told of records with the shape s and the blocks c is told of s and c.
+pub told_of : {A : Type 0} (f : Shape → Blocks → A) {s z : Shape} {c d e : Blocks} {x : A} → x ≡ f z d → z ≡ s → d ≡ e → e ≡ c → x ≡ f s c
+told_of f x shape list read = cc
+
+-- ---- what is left in the room
+
+module _ (s : Shape) (im : Image) where
+  -- once the list holds the records and the numbers are made from it
+  pub held : {list : List Block} {room : Room} → blocks_in list ≡ blocks_of s im → room.list ≡ list → room.numbers ≡ numbers_of s (blocks_in list)
+      → Holds s im (numbers_of s (blocks_of s im)) room
+  held e f g = record { list_is = ap blocks_in f ∙ e; numbers_are = g ∙ ap (numbers_of s) e }
+
+  pub held_numbers : {room : Room} → Holds s im (numbers_of s (blocks_of s im)) room → Recorded s (blocks_of s im)
+      → Numbers s (blocks_in room.list) room.numbers
+  held_numbers h r = rw h.list_is (record { recorded = r; numbers_are = h.numbers_are })
+
+  -- which is what the records of a card that is not refused ask for
+  pub opened_numbers : (sized ranged : Bool) {room : Room} {found : Census} → open_refusal s im sized ranged ≡ None → Surveyed s im room found
+      → Numbers s (blocks_in room.list) room.numbers
+  opened_numbers sized ranged e o = held_numbers o.holds (opened_accepts s im sized ranged e).recorded
+
+-- what a refusal by the call leaves in the room
+pub left_by_call : (s : Shape) (im : Image) (sized ranged : Bool) (old : Room) {r : Refusal}
+    → call_refusal s (length im.bytes) (length im.spare) sized ranged ≡ Some r → Left s im old old r
+left_by_call s im sized ranged old e =
+    subst LeftBy e (first_by LeftBy (call_tests s (length im.bytes) (length im.spare) sized ranged) ((λ h. refl), ((λ h. refl), ((λ h. refl), tt))) tt)
+  where
+    LeftBy : Option Refusal → Type 0
+    LeftBy None = Unit {0}
+    LeftBy (Some r) = Left s im old old r
+
+-- There is one answer and one content of the room.
+pub record Same (a b : Room) (v w : Result Census Refusal) : Type 0 where
+  pub answer : v ≡ w
+  pub list : blocks_in a.list ≡ blocks_in b.list
+  pub numbers : a.numbers ≡ b.numbers
+
+module _ (s : Shape) (im : Image) (old a b : Room) where
+  left_one : (r : Refusal) → Left s im old a r → Left s im old b r → (blocks_in a.list ≡ blocks_in b.list) × (a.numbers ≡ b.numbers)
+  left_one OutsideLimits o p = (cc, cc)
+  left_one WrongLength o p = (cc, cc)
+  left_one OutOfRange o p = (cc, cc)
+  left_one TooFewGood o p = (cc, cc)
+  left_one IllFormed o p = (cc, cc)
+  left_one Unrecovered o p = (cc, cc)
+  left_one OutOfNumbers o p = (cc, cc)
+
+  pub opened_one : (sized ranged : Bool) (v w : Result Census Refusal) → Opened s im sized ranged old a v → Opened s im sized ranged old b w → Same a b v w
+  opened_one sized ranged (Ok v) (Ok w) o p = record { answer = cc; list = cc; numbers = cc }
+  opened_one sized ranged (Ok v) (Err r) o p = absurd (none-some r (sym o.0 ∙ p.0))
+  opened_one sized ranged (Err q) (Ok w) o p = absurd (none-some q (sym p.0 ∙ o.0))
+  opened_one sized ranged (Err q) (Err r) o p =
+      let same : q ≡ r = same_Some q r (sym o.0 ∙ p.0) in
+      let left = left_one q o.1 (subst (λ x. Left s im old b x) (sym same) p.1) in
+      record { answer = ap Err same; list = left.0; numbers = left.1 }

@@ -1,24 +1,34 @@
--- What the opening of a command leaves.
-use Rattle.std.specs.Prelude.{◌≡◌, Bool, ◌&&◌, cond, List, ℕ, ltb, leb, replicate}
+-- What the opening of a command finds, and leaves in the room lent for it.
+use Rattle.std.specs.Prelude.{◌≡◌, Bool, List, ℕ, Some, None, Result, Ok, Err}
 use Rattle.rules.specs.declared.shape.Shape.{Shape}
-use Rattle.rules.specs.Shape.{most}
+use Rattle.rules.specs.declared.refusal.Refusal.{Refusal}
+use Rattle.rules.specs.declared.refusal.Refusal.TheVariants.{TooFewGood, IllFormed}
 use Rattle.rules.specs.Page.{Image}
-use Rattle.rules.specs.WellFormed.{blocks_of}
-use Rattle.words.specs.Words.{records_in, words_of}
-use Rattle.roles.specs.Counted.{none_counted}
+use Rattle.rules.specs.Facts.{Fits}
+use Rattle.rules.specs.WellFormed.{blocks_of, blocks_in}
+use Rattle.roles.specs.declared.census.Census.{Census}
+use Rattle.roles.specs.declared.records.Room.{Room}
 use Rattle.roles.specs.Passes.{numbers_of, census}
 use Rattle.refusals.specs.Orders.{open_refusal}
-use Rattle.survey.specs.declared.Survey.{Survey}
 
--- x, unless n is one of the refusals 1 to k: then it was not made yet
-abbrev pub unless_to : {A : Type 0} → ℕ → ℕ → A → A → A
-unless_to k n before x = cond (ltb 0 n && leb n k) before x
+-- the room holds the records of the card, and these numbers
+pub record Holds (s : Shape) (im : Image) (numbers : List ℕ) (room : Room) : Type 0 where
+  pub list_is : blocks_in room.list ≡ blocks_of s im
+  pub numbers_are : room.numbers ≡ numbers
 
--- The refusal; once it is none of 1 to 3, the word of each block, in which its record is read again; once it is not 4, the numbers of the data
--- blocks; once it is not 5, the census.
-pub record Opened (s : Shape) (im : Image) (sized ranged : Bool) (list numbers : List ℕ) (v : Survey) : Type 0 where
-  pub refusal_is : v.refusal ≡ open_refusal s im sized ranged
-  pub words_are : list ≡ unless_to 3 v.refusal (replicate most 0) (words_of (blocks_of s im))
-  pub records_are : records_in list ≡ unless_to 3 v.refusal (records_in (replicate most 0)) (blocks_of s im)
-  pub numbers_are : numbers ≡ unless_to 4 v.refusal (replicate most 0) (numbers_of s (blocks_of s im))
-  pub census_is : v.census ≡ unless_to 5 v.refusal none_counted (census s (blocks_of s im))
+-- the card is within the limits; the room holds its records and the numbers of its data blocks; the census of the records
+pub record Surveyed (s : Shape) (im : Image) (room : Room) (found : Census) : Type 0 where
+  pub fits : Fits s im
+  pub holds : Holds s im (numbers_of s (blocks_of s im)) room
+  pub census_is : found ≡ census s (blocks_of s im)
+
+-- what is left in the room by a refusal: by 4 the records, by 5 the numbers too, by 1 to 3, the call alone, what it held
+abbrev pub Left : Shape → Image → Room → Room → Refusal → Type 0
+Left s im old new TooFewGood = Holds s im old.numbers new
+Left s im old new IllFormed = Holds s im (numbers_of s (blocks_of s im)) new
+Left s im old new _ = new ≡ old
+
+-- the refusal that applies, or, where none of 1 to 5 does, the census
+abbrev pub Opened : Shape → Image → Bool → Bool → Room → Room → Result Census Refusal → Type 0
+Opened s im sized ranged old new (Ok found) = (open_refusal s im sized ranged ≡ None) × Surveyed s im new found
+Opened s im sized ranged old new (Err r) = (open_refusal s im sized ranged ≡ Some r) × Left s im old new r

@@ -2,61 +2,48 @@
 
 #![tactic(auto)]
 
-ghost use Rattle.std.specs.Prelude.{◌≡◌, replicate};
-ghost use Rattle.rules.specs.Shape.{most};
 ghost use Rattle.rules.specs.Facts.{image_of};
-ghost use Rattle.roles.specs.Counted.{none_counted};
 ghost use Rattle.survey.specs.Opened.{Opened};
 
 use blocks::scan;
+use nand::chip::Chip;
 use refusals::clash;
+use roles::census;
 use roles::census::Census;
-use roles::{census, numbers};
-use rules::shape::{MOST, Shape};
+use roles::records::{Counted, Room};
+use rules::refusal::Refusal;
+use rules::shape::Shape;
 
-// What the records show; where `refusal` is not 0, no record was counted.
-#[derive(Clone, Copy)]
-pub struct Survey {
-    pub census: Census,
-    pub refusal: u8,
-}
-
-fn refused(refusal: u8) -> Survey
-    ensures { (result.refusal ≡ refusal) × (result.census ≡ none_counted) }
-{
-    Survey {
-        census: census::blank(),
-        refusal,
-    }
-}
-
-// Fills the list with the record of each block as a word, and the numbers with those of the logical blocks' data blocks.
 // `sized` says that what is lent has the length asked, `ranged` that the logical page or block is in range.
+// Fills the room with the records and the numbers of the data blocks; a refusal leaves in it what was found before.
 pub fn of(
     bytes: &[u8],
     spare: &[u8],
-    list: &mut [u64; MOST],
-    numbers: &mut [u32; MOST],
     s: Shape,
     sized: bool,
     ranged: bool,
-) -> Survey
-    requires { (list.old ≡ replicate most 0) × (numbers.old ≡ replicate most 0) }
-    ensures { Opened s (image_of bytes.now spare.now)
-        sized ranged list.new numbers.new result }
+    room: &mut Room,
+) -> Result<Census, Refusal>
+    ensures { Opened s (image_of bytes.now spare.now) sized ranged room.old room.new result }
 {
-    let first = refusals::of_call(s, bytes.len(), spare.len(), sized, ranged);
-    if first != 0 {
-        return refused(first);
+    refusals::of_call(s, bytes.len(), spare.len(), sized, ranged)?;
+    let chip = Chip {
+        bytes,
+        spare,
+        shape: s,
+    };
+    scan::scan(&chip, &mut room.list);
+    if s.short_of(census::good(s, &room.list)) {
+        return Err(Refusal::TooFewGood);
     }
-    scan::scan(bytes, spare, s, list);
-    if s.short_of(census::good(s, list)) {
-        return refused(4);
+    room.number(s);
+    let records = room.records(s);
+    let counted = Counted {
+        records,
+        census: records.census(),
+    };
+    if !clash::is_well_formed(&counted) {
+        return Err(Refusal::IllFormed);
     }
-    numbers::data_numbers(s, list, numbers);
-    let census = census::take(s, list, numbers);
-    if !clash::is_well_formed(s, list, numbers, census) {
-        return refused(5);
-    }
-    Survey { census, refusal: 0 }
+    Ok(counted.census)
 }

@@ -1,12 +1,10 @@
 -- A row of worked cases: what a command is given, what it answers and does, and what is looked at afterwards.
-use Rattle.std.specs.Prelude.{Bool, true, false, ◌&&◌, List, [], ◌∷◌, ◌++◌, ℕ, zero, suc, ◌+◌, ◌*◌, eqb, get_or, replicate, take}
+use Rattle.std.specs.Prelude.{Bool, true, false, ◌&&◌, Option, Some, None, List, [], ◌∷◌, ◌++◌, ℕ, zero, suc, ◌+◌, ◌*◌, eqb, get_or, replicate, take}
 use Rattle.rules.specs.declared.shape.Shape.{Shape}
 use Rattle.rules.specs.Bytes.{replaced}
 use Rattle.rules.specs.Spare.{spare_bytes}
 use Rattle.rules.specs.Page.{Image, page_bytes, page_spare}
 use Rattle.rules.specs.Steps.{Step, program, erase, step_done}
-use Rattle.rules.specs.declared.place.Place.{Place}
-use Rattle.rules.specs.declared.place.Place.TheVariants.{At, Nowhere}
 use Rattle.rules.specs.Replies.{number, programs_of, erases_of, shape_for, Reply, image_left, format_reply, power_up_reply, write_reply, block_write_reply, read_reply, table_left, page_left, lent_page, lent_bytes}
 
 -- P, L and K
@@ -128,13 +126,13 @@ did_steps (program i d t ∷ xs) (e b ∷ ys) = false
 did_steps (erase b ∷ xs) (p j ∷ ys) = false
 did_steps (erase b ∷ xs) (e j ∷ ys) = eqb b j && did_steps xs ys
 
-abbrev pub is_at : Place → ℕ → Bool
-is_at (At i) j = eqb i j
-is_at Nowhere j = false
+abbrev pub is_at : Option ℕ → ℕ → Bool
+is_at (Some i) j = eqb i j
+is_at None j = false
 
-abbrev pub is_nowhere : Place → Bool
-is_nowhere (At i) = false
-is_nowhere Nowhere = true
+abbrev pub is_nowhere : Option ℕ → Bool
+is_nowhere (Some i) = false
+is_nowhere None = true
 
 abbrev pub got_by : Shape → Image → Call → ℕ → Bool
 got_by s im (format cut) v = false

@@ -3,13 +3,46 @@
 #![tactic(auto)]
 
 ghost use Rattle.rules.specs.Facts.{image_of};
+ghost use Rattle.rules.specs.Replies.{answer_of};
 ghost use Rattle.rules.specs.Promises.{WriteDone, BlockWriteDone};
 
 use plans::{plan, renewal};
-use roles::seats;
+use roles::records::{Counted, Room};
 use rules::answer::Answer;
-use rules::shape::{MOST, Shape};
+use rules::refusal::Refusal;
+use rules::shape::Shape;
 use steps::budget::Budget;
+use steps::run::Run;
+
+fn write_if_well(
+    bytes: &mut [u8],
+    spare: &mut [u8],
+    page: &[u8],
+    s: Shape,
+    a: usize,
+    cut: usize,
+) -> Result<Answer, Refusal>
+    ensures { WriteDone s (image_of bytes.old spare.old)
+        a page.now cut (answer_of result) bytes.new spare.new }
+{
+    let sized = page.len() == 512;
+    let mut room = Room::new();
+    let census = survey::of(bytes, spare, s, sized, s.in_range(a), &mut room)?;
+    let counted = Counted {
+        records: room.records(s),
+        census,
+    };
+    let p = plan::of(&counted, a);
+    refusals::of_write(&census, p.needed)?;
+    let mut run = Run {
+        bytes,
+        spare,
+        shape: s,
+        budget: Budget::new(cut),
+    };
+    carry::carry_out(&mut run, &counted.records, &p, a, page);
+    Ok(run.budget.answer())
+}
 
 // Write, of a card of shape s.
 pub fn write(
@@ -23,21 +56,34 @@ pub fn write(
     ensures { WriteDone s (image_of bytes.old spare.old)
         a page.now cut result bytes.new spare.new }
 {
-    let mut list = [0u64; MOST];
-    let mut numbers = [0u32; MOST];
-    let sized = page.len() == 512;
-    let ranged = s.in_range(a);
-    let v = survey::of(bytes, spare, &mut list, &mut numbers, s, sized, ranged);
-    if v.refusal != 0 {
-        return Answer::Refused(v.refusal);
-    }
-    let p = plan::of(s, &list, &numbers, v.census, a);
-    let late = refusals::of_write(v.census, p.needed);
-    if late != 0 {
-        return Answer::Refused(late);
-    }
-    let t = Budget::new(cut);
-    carry::carry_out(bytes, spare, page, s, &list, &numbers, p, a, t).answer()
+    Answer::from(write_if_well(bytes, spare, page, s, a, cut))
+}
+
+fn block_write_if_well(
+    bytes: &mut [u8],
+    spare: &mut [u8],
+    block: &[u8],
+    s: Shape,
+    l: usize,
+    cut: usize,
+) -> Result<Answer, Refusal>
+    ensures { BlockWriteDone s (image_of bytes.old spare.old)
+        l block.now cut (answer_of result) bytes.new spare.new }
+{
+    let sized = refusals::block_sized(s, block.len());
+    let mut room = Room::new();
+    let census = survey::of(bytes, spare, s, sized, l < s.logical, &mut room)?;
+    refusals::of_write(&census, 1)?;
+    let records = room.records(s);
+    let r = renewal::by(&census, l, records.seats(l));
+    let mut run = Run {
+        bytes,
+        spare,
+        shape: s,
+        budget: Budget::new(cut),
+    };
+    carry::renew(&mut run, &records, &r, Some(block));
+    Ok(run.budget.answer())
 }
 
 // Block write, of a card of shape s.
@@ -52,20 +98,5 @@ pub fn block_write(
     ensures { BlockWriteDone s (image_of bytes.old spare.old)
         l block.now cut result bytes.new spare.new }
 {
-    let mut list = [0u64; MOST];
-    let mut numbers = [0u32; MOST];
-    let sized = refusals::block_sized(s, block.len());
-    let ranged = l < s.logical;
-    let v = survey::of(bytes, spare, &mut list, &mut numbers, s, sized, ranged);
-    if v.refusal != 0 {
-        return Answer::Refused(v.refusal);
-    }
-    let late = refusals::of_write(v.census, 1);
-    if late != 0 {
-        return Answer::Refused(late);
-    }
-    let q = seats::of(s, &list, &numbers, l);
-    let r = renewal::by(v.census, l, q);
-    let u = Budget::new(cut);
-    carry::renew(bytes, spare, block, s, &list, &numbers, r, u).answer()
+    Answer::from(block_write_if_well(bytes, spare, block, s, l, cut))
 }
