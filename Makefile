@@ -14,7 +14,7 @@
 #   make edits       the edits of definitions that must be refused, and where they are
 #   make mutants     each definition changed in small ways, one at a time, and who refuses it: an hour or two, no part of the gate
 #   make bench       the times of the proved commands
-#   make stack       the stack frames of the library's functions
+#   make stack       the stack frames of the library's functions, and the deepest path of each command held to the header's bound
 #   make clean       remove what was built
 #
 # With HAMUTSIGRA_LIB_DIR set, the libhamutsigra.a in that folder (named from /) is
@@ -88,7 +88,8 @@ bench: lib
 	cargo run $(CARGO_FLAGS) --release --package bench
 
 stack: lib
-	objdump -d --no-show-raw-insn $(HAMUTSIGRA_LIB_DIR)/libhamutsigra.a | grep -E '^[0-9a-f]+ <.*>:|sub +\$$0x[0-9a-f]+,%rsp'
+	objdump -d --no-show-raw-insn $(LIBRARY) | grep -E '^[0-9a-f]+ <.*>:|sub +\$$0x[0-9a-f]+,%rsp'
+	.ci/stack $(LIBRARY)
 
 WARNINGS := -Wall -Wextra -Werror -pedantic
 EXAMPLES := pulled_card chip_on_a_bus

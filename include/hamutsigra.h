@@ -73,7 +73,7 @@
  *
  * What a call takes:
  *
- *   - No heap, no recursion, and less than 2,700 bytes of stack on x86-64, whatever
+ *   - No heap, no recursion, and less than 2,200 bytes of stack on x86-64, whatever
  *     the shape (docs/PERFORMANCE.md has the figure of each function).
  *   - The time to read the whole image, however little the command changes.
  *   - memcpy and memset of the platform. Nothing else is linked to.

@@ -16,6 +16,7 @@ use Rattle.rules.specs.declared.block.State.TheVariants.{Bad, Free, Ill, Used}
 use Rattle.rules.specs.declared.block.Block.{Block}
 use Rattle.std.specs.Prelude.{Option, Some}
 use Rattle.blocks.specs.declared.record.First.{First}
+use Rattle.rules.specs.Below.{list_below}
 use Rattle.rules.specs.Shape.{most, page_no}
 use Rattle.rules.specs.Page.{Image, page_bytes, page_spare, page_of, page_at, is_erased}
 use Rattle.rules.specs.Facts.{Fits}
@@ -23,7 +24,7 @@ use Rattle.rules.specs.WellFormed.{Blocks, Pages, not_used, all_erased, W1to4, u
 use Rattle.laws.proofs.Tests.{dec_eq, lt_or_le, false_is, true_is, is_true, is_false}
 use Rattle.laws.proofs.Bytes.{part_length}
 use Rattle.laws.proofs.Shape.{page_no_below}
-use Rattle.laws.proofs.Below.{all_below-same}
+use Rattle.laws.proofs.Below.{all_below-same, list_below_ext}
 use Rattle.laws.proofs.Records.{blocks_of_at, blocks_of_outside, pages_of_at, block_at_bad, block_at_good}
 use Rattle.blocks.specs.Leading.{blank_from, start_of, Begins, InOrder, Leads}
 use Rattle.blocks.specs.Scanned.{of_card, use_at, uses_of}
@@ -136,6 +137,14 @@ read_all c list {n} {m} e t =
       | inl h ↦ t.at j (omega arith) ∙ rw (lt-ltb j m h) refl
       | inr h ↦ t.after j (omega arith) ∙ rw (le-ltb j m h) refl
     ])
+
+-- The array that holds records holds that of each block in its place,
+pub read_is : (c : Blocks) {list : List Block} → length list ≡ most → blocks_in list ≡ c → list ≡ list_below most c
+read_is c long e = list_below_ext most c (not_used Bad) long (λ j h. ap (λ (r : Blocks). r j) e)
+
+-- so that one array is possible.
+pub read_one : (c : Blocks) {list list' : List Block} → length list ≡ most → length list' ≡ most → blocks_in list ≡ c → blocks_in list' ≡ c → list ≡ list'
+read_one c long long' e f = read_is c long e ∙ sym (read_is c long' f)
 
 -- the records of a card
 pub records_read : (s : Shape) (im : Image) → of_card s.blocks (block_at s im) ≡ blocks_of s im

@@ -1,5 +1,6 @@
 // The records of a card, read in one scan.
-ghost use Rattle.std.specs.Prelude.{◌≡◌, ◌≤◌, ◌<◌, ℕ};
+ghost use Rattle.std.specs.Prelude.{◌≡◌, ◌≤◌, ◌<◌, ℕ, length};
+ghost use Rattle.rules.specs.Shape.{most};
 ghost use Rattle.rules.specs.WellFormed.{Blocks, is_marked, is_bad, pages_of, block_at, blocks_of, blocks_in};
 ghost use Rattle.nand.specs.Chip.{seen};
 ghost use Rattle.nand.specs.Entries.{OfTable};
@@ -129,16 +130,18 @@ fn read_each<F: Fn(usize) -> Block>(chip: &Chip, list: &mut [Block; MOST], read:
     }
 }
 
-// The record of each block.
+// The record of each block. The type gives the length; with it one array is possible.
 pub fn scan(chip: &Chip, list: &mut [Block; MOST])
-    ensures { blocks_in list.new ≡ blocks_of chip.now.shape (seen chip.now) }
+    ensures long { length list.new ≡ most }
+    ensures is { blocks_in list.new ≡ blocks_of chip.now.shape (seen chip.now) }
 {
     read_each(chip, list, |b| read_block(chip, b));
 }
 
 // What format asks of each block.
 pub fn scan_use(chip: &Chip, list: &mut [Block; MOST])
-    ensures { blocks_in list.new ≡ uses_of chip.now.shape (seen chip.now) }
+    ensures long { length list.new ≡ most }
+    ensures is { blocks_in list.new ≡ uses_of chip.now.shape (seen chip.now) }
 {
     read_each(chip, list, |b| Block::not_used(use_of(chip, b)));
 }

@@ -19,6 +19,10 @@ use Rattle.plans.specs.declared.plan.Plan.{Plan}
 use Rattle.plans.specs.declared.renewal.Renewal.{Renewal}
 use Rattle.carry.specs.Carrying.{pages_for, copy_to, copies_to, number_of_block, renewal_steps, Kept, first_steps, own_entry, planned}
 
+-- the page at offset o of the block taken, by the shape of the run
+pub page_into : (s : Shape) (r : Renewal) (o : ℕ) {z : Shape} {b p : ℕ} → z ≡ s → r.into ≡ Some b → p ≡ page_no z b o → p ≡ page_no s (number_of_block r.into) o
+page_into s r o {z} {b} e f g = rw f (g ∙ ap (λ (x : Shape). page_no x b o) e)
+
 module _ (s : Shape) (c : Blocks) where
   -- ---- the pages
 

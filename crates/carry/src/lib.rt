@@ -4,42 +4,18 @@
 #![tactic(auto)]
 
 ghost use Rattle.std.specs.Prelude.{◌≡◌, [], ◌∷◌, ◌<◌, length, option_copied};
-ghost use Rattle.nand.specs.Chip.{seen};
 ghost use Rattle.roles.specs.Kept.{recorded_by};
 ghost use Rattle.steps.specs.Doing.{image_in, Does};
 ghost use Rattle.carry.specs.Carrying.{Sized, page_for, copy_to, copies_to, renewal_steps, Renewable, Kept, first_steps, planned, Doable};
 
-use nand::chip::Chip;
+use content::holder;
 use plans::plan::Plan;
 use plans::renewal::Renewal;
 use roles::records::Records;
 use rules::kind::Kind;
 use steps::run::Run;
 
-// Fills the page buffer with what logical page a gets: part o of the block buffer, or with none the present content.
-fn fill_page(
-    chip: &Chip,
-    records: &Records,
-    block: Option<&[u8]>,
-    a: usize,
-    o: usize,
-    page: &mut [u8],
-)
-    requires { (chip.now.shape ≡ records.now.shape) × Sized records.now.shape (option_copied block)
-        × (length page.old ≡ 512) × (o < records.now.shape.pages) }
-    ensures { page.new ≡ page_for records.now.shape (seen chip.now)
-        (recorded_by records.now) (option_copied block.entry) a o }
-{
-    match block {
-        Some(block) => {
-            let at = o * 512;
-            page.copy_from_slice(&block[at..at + 512]);
-        }
-        None => content::fetch(chip, records, a, page),
-    }
-}
-
-// Programs the page at offset o.
+// Programs the page at offset o: with part o of the block buffer, or with none with the present content, from where it lies.
 fn copy_page(run: &mut Run, records: &Records, renewal: &Renewal, block: Option<&[u8]>, o: usize)
     requires { (run.old.shape ≡ records.now.shape) × Renewable records.now.shape renewal.now (option_copied block)
         × (o < records.now.shape.pages) }
@@ -47,10 +23,18 @@ fn copy_page(run: &mut Run, records: &Records, renewal: &Renewal, block: Option<
         run.old run.new }
 {
     let a = renewal.logical * records.shape.pages + o;
-    let mut page = [255; 512];
-    fill_page(&run.chip(), records, block, a, o, &mut page);
-    let at = run.shape.page_no(renewal.into.unwrap(), o);
-    run.program_entry(at, renewal.highest + 1, Kind::Copy, a, &page);
+    let p = run.shape.page_no(renewal.into.unwrap(), o);
+    let n = renewal.highest + 1;
+    match block {
+        Some(block) => {
+            let at = o * 512;
+            run.program_entry(p, n, Kind::Copy, a, &block[at..at + 512]);
+        }
+        None => {
+            let place = holder::of(run.chip().spare, records, a);
+            run.copy_entry(p, n, Kind::Copy, a, place);
+        }
+    }
 }
 
 // Programs the pages in order.
@@ -89,7 +73,8 @@ fn first_steps(run: &mut Run, records: &Records, plan: &Plan)
     }
 }
 
-// Carries the plan out.
+// Carries the plan out. Not inlined, as `plan::of` is not: what it lays on the stack is gone while the records are read.
+#[inline(never)]
 pub fn carry_out(run: &mut Run, records: &Records, plan: &Plan, a: usize, page: &[u8])
     requires { (run.old.shape ≡ records.now.shape) × (length page.now ≡ 512)
         × Doable records.now.shape (image_in run.old) (recorded_by records.now) plan.now }

@@ -155,6 +155,15 @@ unfolding count_below
 count_below_all zero p f = refl
 count_below_all (suc n) p f = omega (arith, count_below_all n p (λ j h. f j (omega arith)), bit_one (p n) (f n (omega arith)))
 
+pub count_below_full : (n : ℕ) (p : ℕ → Bool) → count_below n p ≡ n → (j : ℕ) → j < n → T (p j)
+unfolding count_below
+count_below_full zero p e j h = absurd (omega arith)
+count_below_full (suc n) p e j h =
+    elim (tcase (p n)) [
+      | inl t ↦ below_suc (λ k. T (p k)) (count_below_full n p (omega (arith, bit_one (p n) t))) t j h
+      | inr t ↦ absurd (omega (arith, bit_zero (p n) (T_not (p n) t), count_below-most n p))
+    ]
+
 -- those that pass go by f, no two to one place, to places below m of weight 1 or more
 pub count_below_places : (n m : ℕ) (p : ℕ → Bool) (f w : ℕ → ℕ) → ((j : ℕ) → j < n → T (p j) → f j < m) → ((j : ℕ) → j < n → T (p j) → 0 < w (f j))
     → ((i j : ℕ) → i < n → j < n → T (p i) → T (p j) → f i ≡ f j → i ≡ j) → count_below n p ≤ sum_below m w

@@ -142,3 +142,21 @@ module _ (xs ys : List ℕ) (at n : ℕ) (fits : at + n ≤ length xs) (long : l
       let new : List ℕ = replaced xs at n ys in
       let rest : drop (at + n) new ≡ drop (at + n) xs = sym (drop-drop n at new) ∙ ap (drop n) replaced_drop ∙ drop_at ys (drop (at + n) xs) n long in
       ap (take k) (drop_further new xs (at + n) i h rest)
+
+-- ---- a part replaced by another part of the same list, which lies before it, after it, or is it
+
+-- what is put between the list's first places and what comes n places further on
+pub replaced_between : (xs ys zs before rest after : List ℕ) (at n : ℕ) → before ≡ take at xs → rest ≡ drop at xs → after ≡ drop n rest → zs ≡ ys
+    → before ++ (zs ++ after) ≡ replaced xs at n ys
+unfolding replaced
+replaced_between xs ys zs before rest after at n e f g h = rw (e, g, f, h, drop-drop n at xs) refl
+
+pub part_before : (xs before : List ℕ) (at i n : ℕ) → before ≡ take at xs → at ≤ length xs → i + n ≤ at → part before i n ≡ part xs i n
+part_before xs before at i n e long h =
+    let short : i + n ≤ length (take at xs) = simp length-take (omega arith) in
+    ap (λ (l : List ℕ). part l i n) e ∙ sym (part-append (take at xs) (drop at xs) i n short) ∙ ap (λ (l : List ℕ). part l i n) (take-append-drop at xs)
+
+pub part_after : (xs rest after : List ℕ) (at n i m : ℕ) → rest ≡ drop at xs → after ≡ drop n rest → at + n ≤ i → part after (i - at - n) m ≡ part xs i m
+part_after xs rest after at n i m e f h =
+    let there : (at + n) + (i - at - n) ≡ i = omega arith in
+    rw (f, e) (ap (take m) (ap (drop (i - at - n)) (drop-drop n at xs) ∙ drop-drop (i - at - n) (at + n) xs ∙ ap (λ (j : ℕ). drop j xs) there))

@@ -77,6 +77,8 @@ fn oldest(counted: &Counted) -> usize
     }
 }
 
+// The plan. Not inlined: the stack of a command holds the records, and what the plan lays there beside them goes with it.
+#[inline(never)]
 pub fn of(counted: &Counted, a: usize) -> Plan
     requires { Limits counted.now.records.shape }
     ensures { result ≡ plan_of counted.now.records.shape (recorded_by counted.now.records) a }

@@ -1,6 +1,8 @@
 // Steps done on the lent images, each counted against the cut number.
-ghost use Rattle.std.specs.Prelude.{◌≡◌, ◌*◌, ◌<◌, [], ◌∷◌, ℕ, Bool, length, IfSome};
-ghost use Rattle.rules.specs.Facts.{Within};
+ghost use Rattle.std.specs.Prelude.{◌≡◌, ◌+◌, ◌*◌, ◌<◌, ◌≤◌, [], ◌∷◌, ℕ, Bool, List, length, IfSome};
+ghost use Rattle.rules.specs.Bytes.{replaced};
+ghost use Rattle.rules.specs.Content.{bytes_at};
+ghost use Rattle.rules.specs.Facts.{image_of, Within};
 ghost use Rattle.rules.specs.Spare.{kind_byte};
 ghost use Rattle.rules.specs.Steps.{program, erase, entry_step};
 ghost use Rattle.steps.specs.Runs.{Sane};
@@ -22,8 +24,30 @@ pub struct Run<'a> {
     ghost sane: { Sane budget },
 }
 
+// Page p gets the data bytes of the page at a place, or with none 512 of 255, through a writable part of exactly its own bytes: the others, before and after it, are read.
+fn put_page(bytes: &mut [u8], p: usize, place: Option<usize>)
+    requires { (p * 512 + 512 ≤ length bytes.old) × IfSome place (λ q. q * 512 + 512 ≤ length bytes.old) }
+    ensures { (spare : List ℕ) → bytes.new ≡ replaced bytes.old (p * 512) 512 (bytes_at (image_of bytes.old spare) place) }
+{
+    let at = p * 512;
+    let (before, rest) = bytes.split_at_mut(at);
+    let (own, after) = rest.split_at_mut(512);
+    match place {
+        Some(q) => {
+            if q < p {
+                let from = q * 512;
+                own.copy_from_slice(&before[from..from + 512]);
+            } else if p < q {
+                let from = q * 512 - at - 512;
+                own.copy_from_slice(&after[from..from + 512]);
+            }
+        }
+        None => own.fill(255),
+    }
+}
+
 impl<'a> Run<'a> {
-    ghost use Rattle.steps.specs.Doing.{Same, Stepped, Does, Tells, erase_any, erases_to};
+    ghost use Rattle.steps.specs.Doing.{image_in, Same, Stepped, Does, Tells, erase_any, erases_to};
 
     // What the images are by now.
     pub fn chip(&self) -> Chip<'_>
@@ -47,6 +71,17 @@ impl<'a> Run<'a> {
     {
         let at = self.shape.page_start::<DATA>(p);
         self.bytes[at..at + 512].copy_from_slice(page);
+        let from = self.shape.page_start::<SPARE>(p);
+        self.spare[from..from + 16].copy_from_slice(marks);
+    }
+
+    // The same with the data bytes of the page at a place, or with none 512 of 255, and no buffer between.
+    fn program_from(&mut self, p: usize, place: Option<usize>, marks: &[u8; 16])
+        requires { (p < self.old.shape.blocks * self.old.shape.pages)
+            × IfSome place (λ q. q < self.old.shape.blocks * self.old.shape.pages) }
+        ensures { Stepped (program p (bytes_at (image_in self.old) place) marks.now) self.old self.new }
+    {
+        put_page(self.bytes, p, place);
         let from = self.shape.page_start::<SPARE>(p);
         self.spare[from..from + 16].copy_from_slice(marks);
     }
@@ -77,6 +112,20 @@ impl<'a> Run<'a> {
             return;
         }
         self.program(p, page, &spare_bytes(n, u8::from(kind), a));
+        self.budget = self.budget.programmed();
+    }
+
+    // The same with the bytes of the page at a place, or with none 512 of 255.
+    pub fn copy_entry(&mut self, p: usize, n: u32, kind: Kind, a: usize, place: Option<usize>)
+        requires { (p < self.old.shape.blocks * self.old.shape.pages)
+            × IfSome place (λ q. q < self.old.shape.blocks * self.old.shape.pages) }
+        ensures { Does (λ im. entry_step p n (kind_byte kind) a (bytes_at im place) ∷ []) self.old self.new }
+    {
+        if self.budget.is_spent() {
+            self.budget = self.budget.stop();
+            return;
+        }
+        self.program_from(p, place, &spare_bytes(n, u8::from(kind), a));
         self.budget = self.budget.programmed();
     }
 

@@ -3,7 +3,7 @@ use mathlib.Core.Path.{◌≡◌, refl, sym, ap, subst, ◌∙◌}
 use mathlib.Core.Logic.{inl, inr}
 use mathlib.Core.Bool.{Bool, true, false}
 use mathlib.Core.List.{List}
-use Prim.Native.Nat.{◌<◌}
+use Prim.Native.Nat.{ℕ, ◌<◌}
 use native.Mathlib.Omega.{arith}
 use lib.ListN.{length}
 use borrow.Author.Tests.{ltb-false}
@@ -22,6 +22,7 @@ use Rattle.laws.proofs.Tests.{lt_or_le}
 use Rattle.laws.proofs.First.{first_by, unless_some, unless_none, neither_refuses}
 use Rattle.laws.proofs.Below.{count_below-most}
 use Rattle.laws.proofs.Records.{blocks_of_at, blocks_of_outside, block_at_number, block_at_logical, blocks_of_records}
+use Rattle.blocks.proofs.Image.{read_one}
 use Rattle.roles.specs.declared.census.Census.{Census}
 use Rattle.roles.specs.declared.records.Room.{Room}
 use Rattle.roles.specs.Passes.{Recorded, Numbers, numbers_of}
@@ -101,9 +102,9 @@ told_of f x shape list read = cc
 
 module _ (s : Shape) (im : Image) where
   -- once the list holds the records and the numbers are made from it
-  pub held : {list : List Block} {room : Room} → blocks_in list ≡ blocks_of s im → room.list ≡ list → room.numbers ≡ numbers_of s (blocks_in list)
-      → Holds s im (numbers_of s (blocks_of s im)) room
-  held e f g = record { list_is = ap blocks_in f ∙ e; numbers_are = g ∙ ap (numbers_of s) e }
+  pub held : {list : List Block} {room : Room} → length list ≡ most → blocks_in list ≡ blocks_of s im → room.list ≡ list
+      → room.numbers ≡ numbers_of s (blocks_in list) → Holds s im (numbers_of s (blocks_of s im)) room
+  held long e f g = record { long = ap length f ∙ long; list_is = ap blocks_in f ∙ e; numbers_are = g ∙ ap (numbers_of s) e }
 
   pub held_numbers : {room : Room} → Holds s im (numbers_of s (blocks_of s im)) room → Recorded s (blocks_of s im)
       → Numbers s (blocks_in room.list) room.numbers
@@ -124,24 +125,27 @@ left_by_call s im sized ranged old e =
     LeftBy None = Unit {0}
     LeftBy (Some r) = Left s im old old r
 
--- There is one answer and one content of the room.
+-- There is one answer and one content of the room, each array of it whole.
 pub record Same (a b : Room) (v w : Result Census Refusal) : Type 0 where
   pub answer : v ≡ w
-  pub list : blocks_in a.list ≡ blocks_in b.list
+  pub list : a.list ≡ b.list
   pub numbers : a.numbers ≡ b.numbers
 
 module _ (s : Shape) (im : Image) (old a b : Room) where
-  left_one : (r : Refusal) → Left s im old a r → Left s im old b r → (blocks_in a.list ≡ blocks_in b.list) × (a.numbers ≡ b.numbers)
+  list_one : {m n : List ℕ} → Holds s im m a → Holds s im n b → a.list ≡ b.list
+  list_one o p = read_one (blocks_of s im) o.long p.long o.list_is p.list_is
+
+  left_one : (r : Refusal) → Left s im old a r → Left s im old b r → (a.list ≡ b.list) × (a.numbers ≡ b.numbers)
   left_one OutsideLimits o p = (cc, cc)
   left_one WrongLength o p = (cc, cc)
   left_one OutOfRange o p = (cc, cc)
-  left_one TooFewGood o p = (cc, cc)
-  left_one IllFormed o p = (cc, cc)
+  left_one TooFewGood o p = (list_one o p, cc)
+  left_one IllFormed o p = (list_one o p, cc)
   left_one Unrecovered o p = (cc, cc)
   left_one OutOfNumbers o p = (cc, cc)
 
   pub opened_one : (sized ranged : Bool) (v w : Result Census Refusal) → Opened s im sized ranged old a v → Opened s im sized ranged old b w → Same a b v w
-  opened_one sized ranged (Ok v) (Ok w) o p = record { answer = cc; list = cc; numbers = cc }
+  opened_one sized ranged (Ok v) (Ok w) o p = record { answer = cc; list = list_one o.1.holds p.1.holds; numbers = cc }
   opened_one sized ranged (Ok v) (Err r) o p = absurd (none-some r (sym o.0 ∙ p.0))
   opened_one sized ranged (Err q) (Ok w) o p = absurd (none-some q (sym p.0 ∙ o.0))
   opened_one sized ranged (Err q) (Err r) o p =

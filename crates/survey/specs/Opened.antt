@@ -1,8 +1,9 @@
 -- What the opening of a command finds, and leaves in the room lent for it.
-use Rattle.std.specs.Prelude.{◌≡◌, Bool, List, ℕ, Some, None, Result, Ok, Err}
+use Rattle.std.specs.Prelude.{◌≡◌, Bool, List, length, ℕ, Some, None, Result, Ok, Err}
 use Rattle.rules.specs.declared.shape.Shape.{Shape}
 use Rattle.rules.specs.declared.refusal.Refusal.{Refusal}
 use Rattle.rules.specs.declared.refusal.Refusal.TheVariants.{TooFewGood, IllFormed}
+use Rattle.rules.specs.Shape.{most}
 use Rattle.rules.specs.Page.{Image}
 use Rattle.rules.specs.Facts.{Fits}
 use Rattle.rules.specs.WellFormed.{blocks_of, blocks_in}
@@ -11,8 +12,9 @@ use Rattle.roles.specs.declared.records.Room.{Room}
 use Rattle.roles.specs.Passes.{numbers_of, census}
 use Rattle.refusals.specs.Orders.{open_refusal}
 
--- the room holds the records of the card, and these numbers
+-- the room holds the records of the card, in an array of 64, and these numbers
 pub record Holds (s : Shape) (im : Image) (numbers : List ℕ) (room : Room) : Type 0 where
+  pub long : length room.list ≡ most
   pub list_is : blocks_in room.list ≡ blocks_of s im
   pub numbers_are : room.numbers ≡ numbers
 

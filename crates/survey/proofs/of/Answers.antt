@@ -23,32 +23,32 @@ invariant_of-chip c = record { fits = (call_accepts _ _ _ _ _ (told_ok _ (sym c.
 pub returns-then-short_of : goal.returns-then-short_of
 returns-then-short_of c =
     let s = c.args.s in
-    let few = few_by _ _ c.good.ensures c.short_of.ensures ∙ ap (too_few_good s) c.scan.ensures in (
+    let few = few_by _ _ c.good.ensures c.short_of.ensures ∙ ap (too_few_good s) c.scan.ensures.is in (
       by_card s _ _ _ (told_ok _ (sym c.of_call.ensures ∙ c.in_ok-of_call.was)) ∙ first_here _ _ (sym few ∙ c.if-short_of.true),
-      record { list_is = c.scan.ensures; numbers_are = refl },
+      record { long = c.scan.ensures.long; list_is = c.scan.ensures.is; numbers_are = refl },
     )
 
 pub number-requires : goal.number-requires
 number-requires c =
     let s = c.args.s in
-    let few = few_by _ _ c.good.ensures c.short_of.ensures ∙ ap (too_few_good s) c.scan.ensures in
+    let few = few_by _ _ c.good.ensures c.short_of.ensures ∙ ap (too_few_good s) c.scan.ensures.is in
     let call = call_accepts _ _ _ _ _ (told_ok _ (sym c.of_call.ensures ∙ c.in_ok-of_call.was)) in
-    rw c.scan.ensures (recorded s (image_of c.args.bytes.now c.args.spare.now) call.within (sym few ∙ c.if-short_of.false))
+    rw c.scan.ensures.is (recorded s (image_of c.args.bytes.now c.args.spare.now) call.within (sym few ∙ c.if-short_of.false))
 
 pub records-records-requires : goal.records-records-requires
 records-records-requires c =
     let s = c.args.s in
     let im = image_of c.args.bytes.now c.args.spare.now in
-    let few = few_by _ _ c.good.ensures c.short_of.ensures ∙ ap (too_few_good s) c.scan.ensures in
+    let few = few_by _ _ c.good.ensures c.short_of.ensures ∙ ap (too_few_good s) c.scan.ensures.is in
     let call = call_accepts _ _ _ _ _ (told_ok _ (sym c.of_call.ensures ∙ c.in_ok-of_call.was)) in
-    held_numbers s im (held s im c.scan.ensures c.number.ensures.list c.number.ensures.numbers) (recorded s im call.within (sym few ∙ c.if-short_of.false))
+    held_numbers s im (held s im c.scan.ensures.long c.scan.ensures.is c.number.ensures.list c.number.ensures.numbers) (recorded s im call.within (sym few ∙ c.if-short_of.false))
 
 pub returns-then-not-is_well_formed : goal.returns-then-not-is_well_formed
 returns-then-not-is_well_formed c =
     let s = c.args.s in
     let im = image_of c.args.bytes.now c.args.spare.now in
-    let few = few_by _ _ c.good.ensures c.short_of.ensures ∙ ap (too_few_good s) c.scan.ensures in
-    let holds = held s im c.scan.ensures c.number.ensures.list c.number.ensures.numbers in
+    let few = few_by _ _ c.good.ensures c.short_of.ensures ∙ ap (too_few_good s) c.scan.ensures.is in
+    let holds = held s im c.scan.ensures.long c.scan.ensures.is c.number.ensures.list c.number.ensures.numbers in
     let well = told_of well_formed c.is_well_formed.ensures c.records-records.ensures.shape_is c.records-records.ensures.list_is holds.list_is in (
       by_card s _ _ _ (told_ok _ (sym c.of_call.ensures ∙ c.in_ok-of_call.was))
           ∙ first_later _ _ (sym few ∙ c.if-short_of.false) ∙ first_here _ _ (ap not (sym well ∙ c.if-not-is_well_formed.true)),
@@ -59,8 +59,8 @@ pub returns : goal.returns
 returns c =
     let s = c.args.s in
     let im = image_of c.args.bytes.now c.args.spare.now in
-    let few = few_by _ _ c.good.ensures c.short_of.ensures ∙ ap (too_few_good s) c.scan.ensures in
-    let holds = held s im c.scan.ensures c.number.ensures.list c.number.ensures.numbers in
+    let few = few_by _ _ c.good.ensures c.short_of.ensures ∙ ap (too_few_good s) c.scan.ensures.is in
+    let holds = held s im c.scan.ensures.long c.scan.ensures.is c.number.ensures.list c.number.ensures.numbers in
     let well = told_of well_formed c.is_well_formed.ensures c.records-records.ensures.shape_is c.records-records.ensures.list_is holds.list_is in (
       by_card s _ _ _ (told_ok _ (sym c.of_call.ensures ∙ c.in_ok-of_call.was))
           ∙ first_later _ _ (sym few ∙ c.if-short_of.false) ∙ first_later _ _ (ap not (sym well ∙ c.if-not-is_well_formed.false)) ∙ first_end,

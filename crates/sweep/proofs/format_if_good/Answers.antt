@@ -27,7 +27,7 @@ unfolding format_reply
 returns-then-short_of c =
     let s = c.args.s in
     let im = image_of c.args.bytes.now c.args.spare.now in
-    let few = few_told s im c.scan_use.ensures c.good.ensures c.short_of.ensures in
+    let few = few_told s im c.scan_use.ensures.is c.good.ensures c.short_of.ensures in
     replied_refused s _ _ c.args.cut (format_list s (blocks_of s im))
     (format_few s im (told_ok _ (sym c.of_call.ensures ∙ c.in_ok-of_call.was)) (sym few ∙ c.if-short_of.true))
 
@@ -36,9 +36,9 @@ unfolding format_reply format_list
 returns c =
     let s = c.args.s in
     let im = image_of c.args.bytes.now c.args.spare.now in
-    let few = few_told s im c.scan_use.ensures c.good.ensures c.short_of.ensures in
+    let few = few_told s im c.scan_use.ensures.is c.good.ensures c.short_of.ensures in
     let none = format_none s im (told_ok _ (sym c.of_call.ensures ∙ c.in_ok-of_call.was)) (sym few ∙ c.if-short_of.false) in
     let does = c.erase_each.ensures.erased (goes (blocks_of s im)) (λ j r h told.
     let goes_j : r ≡ goes (blocks_in c.scan_use.new.list) j = search rules in
-    goes_j ∙ ap (λ b. goes b j) c.scan_use.ensures ∙ goes_same s im j) in
+    goes_j ∙ ap (λ b. goes b j) c.scan_use.ensures.is ∙ goes_same s im j) in
     replied_done {f = λ _. format_list s (blocks_of s im)} c.args.cut none c.new.ensures.0 does c.answer.ensures (search rules) (search rules)
