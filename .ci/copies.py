@@ -78,6 +78,12 @@ def refusals(out):
     return ', '.join(f'{place} {" ".join(sorted(names))}' for place, names in sorted(places.items()))
 
 
+def only_noted(out):
+    """Goals that stay unproved beside a function's refused answers: the prover has no error for these, but a note."""
+    named = re.split(r'[ ,]+', refusals(out))
+    return [goal for goal in re.findall(r'^note: src/\S+\.rt:\d+:\d+: .*\(`([^`]+)`\)', out, flags=re.M) if goal not in named]
+
+
 def by_form(out):
     """A line that says that a proof names what is no longer there, or that the prover came to a limit: such a refusal shows nothing of the meaning."""
     return next((line for line in out.splitlines() if GONE.search(line) or LIMITS.search(line)), None)

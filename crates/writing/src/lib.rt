@@ -34,11 +34,12 @@ fn write_if_well(
     };
     let p = plan::of(&counted, a);
     refusals::of_write(&census, p.needed)?;
+    let budget = Budget::new(cut);
     let mut run = Run {
         bytes,
         spare,
         shape: s,
-        budget: Budget::new(cut),
+        budget,
     };
     carry::carry_out(&mut run, &counted.records, &p, a, page);
     Ok(run.budget.answer())

@@ -1,4 +1,4 @@
-use Rattle.std.proofs.Common.{◌≡◌, true, sym, ap, ◌∙◌, rules}
+use Rattle.std.proofs.Common.{◌≡◌, true, false, sym, ap, ◌∙◌, rules, tests}
 use borrow.Author.Tests.{eqb-true}
 use Prim.Native.Nat.{◌*◌}
 use mathlib.Core.Bool.{Bool, cond}
@@ -47,10 +47,12 @@ returns c =
     let kept = λ (b : Bool). cond b c.args.table.now (table_of s (blocks_of s im) s.logical) in
     elim c.if-not-run.branch [
       | then-not-run w ↦
+          let uncut : c.erase_each.new.self.budget.short ≡ false = search (rules, tests) in
           let filled = told_of (λ t b. table_of t b t.logical) w.fill_table.ensures c.records-records.ensures.shape_is c.records-records.ensures.list_is ok.1.holds.list_is in
           rw w.table-is
-          (power_up_done c.args.table.now c.args.cut none c.new.ensures.0 does c.answer.ensures (search rules) (search rules) (filled ∙ sym (ap kept w.if-not-run.true)))
+          (power_up_done c.args.table.now c.args.cut none c.new.ensures.0 does c.answer.ensures (search rules) (search rules) (filled ∙ sym (ap kept uncut)))
       | else-not-run w ↦
+          let was_cut : c.erase_each.new.self.budget.short ≡ true = search (rules, tests) in
           rw w.table-is
-          (power_up_done c.args.table.now c.args.cut none c.new.ensures.0 does c.answer.ensures (search rules) (search rules) (sym (ap kept w.if-not-run.false)))
+          (power_up_done c.args.table.now c.args.cut none c.new.ensures.0 does c.answer.ensures (search rules) (search rules) (sym (ap kept was_cut)))
     ]

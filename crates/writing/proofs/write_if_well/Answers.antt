@@ -1,5 +1,6 @@
 use borrow.Author.Tests.{eqb-true}
 use borrow.Author.Rules.{rules}
+use native.Mathlib.Omega.{arith}
 use lib.Dec.{eqb}
 use lib.ListN.{length}
 use Rattle.std.proofs.Common.{refl, sym, ap, ◌∙◌}
@@ -11,6 +12,7 @@ use Rattle.rules.specs.Replies.{write_reply}
 use Rattle.refusals.specs.Orders.{open_refusal}
 use Rattle.refusals.proofs.Refusing.{write_order}
 use Rattle.survey.proofs.Opening.{opened_accepts, opened_numbers, told_of}
+use Rattle.steps.specs.Runs.{started}
 use Rattle.steps.proofs.Running.{does_same}
 use Rattle.steps.proofs.Replying.{replied_refused, replied_done}
 use Rattle.plans.specs.Plans.{plan_of}
@@ -68,5 +70,5 @@ returns c =
     let ranged = ap (open_refusal a.s im (eqb (length a.page.now) 512)) (sym c.in_range.ensures) in
     let w = write_ready a.s im a.a a.page.now (ranged ∙ o.0) o.1.census_is made (sym c.of_write.ensures ∙ c.in_ok-of_write.was) in
     let steps = told_of (λ t b. planned t im b c.of-p.result a.a a.page.now) refl c.records.ensures.shape_is c.records.ensures.list_is o.1.holds.list_is ∙ w.1.steps_are in
-    replied_done {f = λ i. write_list a.s i (blocks_of a.s i) a.a a.page.now} a.cut w.0 c.new.ensures.0 (does_same steps c.carry_out.ensures) c.answer.ensures
+    replied_done {f = λ i. write_list a.s i (blocks_of a.s i) a.a a.page.now} a.cut w.0 (c.new-budget.ensures.0 ∙ ap started (omega arith)) (does_same steps c.carry_out.ensures) c.answer.ensures
     (search rules) (search rules)

@@ -9,8 +9,8 @@ use Rattle.blocks.proofs.scan.is_blank.Goals as goal
 pub returns-then-not-erased_at : goal.returns-then-not-erased_at
 returns-then-not-erased_at c =
     let chip = c.args.chip.now in
-    blank_not chip.shape (seen chip) c.args.b c.args.from c.loop-i.i c.loop-i-test.true c.page_no.ensures.0 c.erased_at.ensures c.loop-i.auto.i
-    c.if-not-erased_at.true
+    blank_not chip.shape (seen chip) c.args.b c.args.from c.loop-i.i c.loop-i-test.true c.page_no.ensures.0 c.erased_at.ensures
+    (omega (arith, c.loop-i.auto.i, c.requires.1)) c.if-not-erased_at.true
 
 pub loop-i-preserved : goal.loop-i-preserved
 loop-i-preserved c =

@@ -1,4 +1,4 @@
-use Rattle.std.proofs.Common.{◌≡◌, refl, ap, ◌∙◌}
+use Rattle.std.proofs.Common.{◌≡◌, refl, ap, ◌∙◌, rules, tests}
 use Prim.Native.Nat.{ℕ, ◌<◌}
 use native.Mathlib.Omega.{arith}
 use Rattle.rules.specs.Below.{all_below}
@@ -23,7 +23,7 @@ loop-i-preserved c =
     (record {
       apart = all_turn (log_apart records.shape blocks) i c.loop-i.invariant.apart
           (lone_log records.shape blocks i c.block.ensures c.is_live-live.ensures small logs refl) refl;
-      logs = logs_turn records.shape blocks i c.block.ensures c.is_live-live.ensures small logs refl;
+      logs = logs_turn records.shape blocks i c.block.ensures c.is_live-live.ensures small logs (search (rules, tests));
     })
 
 pub returns : goal.returns
